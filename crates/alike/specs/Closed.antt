@@ -112,10 +112,10 @@ next_shut (NextPartForm.over m d h) p g = clash (cc)
 next_shut (NextPartForm.refused m d y a) p g = clash (cc)
 
 -- at the end of each part's arguments stands no digit
-parts_shut : {s : List ℕ} {from end : ℕ} {x : Told (List HeaderRow)} → PartsForm s end from x → (ps : List HeaderRow) → x ≡ good ps → Shut s ps
+parts_shut : {s : List ℕ} {end from : ℕ} {x : Told (List HeaderRow)} → PartsForm s end from x → (ps : List HeaderRow) → x ≡ good ps → Shut s ps
 parts_shut {s} (PartsForm.over h) ps g = let d : [] ≡ ps = cc in subst (Shut s) d tt
 parts_shut (PartsForm.fault h) ps g = clash (cc)
-parts_shut {s} (PartsForm.more {p} {a} h f) ps g = go a (λ qs d. parts_shut f qs d) g
+parts_shut {s} (PartsForm.more {p} {a} h f) ps g = go a (λ qs d. parts_shut {from = p.arg_end + 1} f qs d) g
   where
     go : (y : Told (List HeaderRow)) → ((qs : List HeaderRow) → y ≡ good qs → Shut s qs) → part_before p y ≡ good ps → Shut s ps
     go (good qs) k g = let d : p ∷ qs ≡ ps = cc in subst (Shut s) d (next_shut h p refl, k qs refl)

@@ -30,17 +30,17 @@ fn main(rt: HostRuntime) -> Result<(), AllocError> {
 }
 
 fn small<R: Env + Files + Input + Print + Eprint + AllocGlobal>(rt: &R) -> Result<(), AllocError> {
-    let mut chunk = vec![in rt.alloc(); 0u8; CHUNK]?;
-    let mut out = vec![in rt.alloc(); 0u8; CHUNK]?;
-    let mut file = vec![in rt.alloc(); 0u8; SMALL_FILE]?;
-    let mut heads = vec![in rt.alloc(); 0u32; SMALL_HEADERS]?;
-    let mut rows = vec![in rt.alloc(); 0u32; SMALL_ROWS]?;
-    let mut slots = vec![in rt.alloc(); 0u64; SMALL_SLOTS]?;
-    let mut chars = vec![in rt.alloc(); 0u8; SMALL_CHARS]?;
-    let mut refs = vec![in rt.alloc(); 0u32; SMALL_REFS]?;
-    let mut ints = vec![in rt.alloc(); 0i64; SMALL_NUMBERS]?;
-    let mut reals = vec![in rt.alloc(); 0.0f64; SMALL_NUMBERS]?;
-    let mut ends = vec![in rt.alloc(); 0usize; SMALL_ENDS]?;
+    let mut chunk = input::room(rt.alloc(), 0u8, CHUNK)?;
+    let mut out = input::room(rt.alloc(), 0u8, CHUNK)?;
+    let mut file = input::room(rt.alloc(), 0u8, SMALL_FILE)?;
+    let mut heads = input::room(rt.alloc(), 0u32, SMALL_HEADERS)?;
+    let mut rows = input::room(rt.alloc(), 0u32, SMALL_ROWS)?;
+    let mut slots = input::room(rt.alloc(), 0u64, SMALL_SLOTS)?;
+    let mut chars = input::room(rt.alloc(), 0u8, SMALL_CHARS)?;
+    let mut refs = input::room(rt.alloc(), 0u32, SMALL_REFS)?;
+    let mut ints = input::room(rt.alloc(), 0i64, SMALL_NUMBERS)?;
+    let mut reals = input::room(rt.alloc(), 0.0f64, SMALL_NUMBERS)?;
+    let mut ends = input::room(rt.alloc(), 0usize, SMALL_ENDS)?;
     compare_output::all(
         rt,
         chunk.as_mut_slice(),
@@ -61,17 +61,17 @@ fn small<R: Env + Files + Input + Print + Eprint + AllocGlobal>(rt: &R) -> Resul
 }
 
 fn large<R: Env + Files + Input + Print + Eprint + AllocGlobal>(rt: &R) -> Result<(), AllocError> {
-    let mut chunk = vec![in rt.alloc(); 0u8; CHUNK]?;
-    let mut out = vec![in rt.alloc(); 0u8; CHUNK]?;
-    let mut file = vec![in rt.alloc(); 0u8; MIDDLE_FILE]?;
-    let mut heads = vec![in rt.alloc(); 0u32; MIDDLE_HEADERS]?;
-    let mut rows = vec![in rt.alloc(); 0u32; MIDDLE_ROWS]?;
-    let mut slots = vec![in rt.alloc(); 0u64; MIDDLE_SLOTS]?;
-    let mut chars = vec![in rt.alloc(); 0u8; MIDDLE_CHARS]?;
-    let mut refs = vec![in rt.alloc(); 0u32; MIDDLE_REFS]?;
-    let mut ints = vec![in rt.alloc(); 0i64; MIDDLE_NUMBERS]?;
-    let mut reals = vec![in rt.alloc(); 0.0f64; MIDDLE_NUMBERS]?;
-    let mut ends = vec![in rt.alloc(); 0usize; MIDDLE_ENDS]?;
+    let mut chunk = input::room(rt.alloc(), 0u8, CHUNK)?;
+    let mut out = input::room(rt.alloc(), 0u8, CHUNK)?;
+    let mut file = input::room(rt.alloc(), 0u8, MIDDLE_FILE)?;
+    let mut heads = input::room(rt.alloc(), 0u32, MIDDLE_HEADERS)?;
+    let mut rows = input::room(rt.alloc(), 0u32, MIDDLE_ROWS)?;
+    let mut slots = input::room(rt.alloc(), 0u64, MIDDLE_SLOTS)?;
+    let mut chars = input::room(rt.alloc(), 0u8, MIDDLE_CHARS)?;
+    let mut refs = input::room(rt.alloc(), 0u32, MIDDLE_REFS)?;
+    let mut ints = input::room(rt.alloc(), 0i64, MIDDLE_NUMBERS)?;
+    let mut reals = input::room(rt.alloc(), 0.0f64, MIDDLE_NUMBERS)?;
+    let mut ends = input::room(rt.alloc(), 0usize, MIDDLE_ENDS)?;
     compare_output::all(
         rt,
         chunk.as_mut_slice(),

@@ -1,8 +1,7 @@
 // The argument reader as one thing, which carries the file, its place and its end.
 //
 // As `Args` of the Rust's value.rs. Each reader takes the struct apart, calls the function of the by-value core that does the work, and
-// puts the reader where the answer leaves it. No function over such a struct is covered: each is proved by a walk of its code, so they
-// are thin, and what can be said without the struct stands below it.
+// puts the reader where the answer leaves it. They are thin, and what can be said without the struct stands below it.
 #![tactic(auto)]
 
 ghost use Rattle.std.specs.Prelude.{◌≡◌};
@@ -23,7 +22,7 @@ use params::{Emptiness, OpenedReader, Skipped, State};
 use scalars::{NextOptReal, NextOptRef, NextReal, NextRef, NextTruth, NextWhole};
 use words::{NextName, NextText};
 
-#[derive(Drop)]
+#[derive(Clone, Copy)]
 pub struct Args<'a> {
     pub file: &'a [u8],
     pub at: State,
@@ -200,7 +199,7 @@ impl<'a> Args<'a> {
     }
 }
 
-// The functions above with plain parameters: a reader is made, asked once and given up. Whoever calls them needs no walk.
+// The functions above with plain parameters: a reader is made, asked once and given up.
 pub fn skip_at(file: &[u8], at: State) -> Skipped
     ensures { told_skipped result ≡ skip_of file.now at.place at.end }
 {

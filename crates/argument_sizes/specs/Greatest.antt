@@ -86,7 +86,7 @@ module _ (π : Sizes → ℕ) (f : List ℕ → ℕ) (least : π no_sizes ≡ 0)
   args_passed : {e n p q : ℕ} (k : ℕ) (a : Span) → ReaderPasses s e n p q → n < k → (param_of s q e).answer ≡ good a → f (span_bytes s a) ≤ π (args_from k s p e)
   args_passed zero a d l g = absurd (omega arith)
   args_passed {e} {p} (suc k) a here l g = omega (arith, args_turn p e k a g)
-  args_passed {e} {p} (suc k) a (past b h d) l g = let ih = args_passed k a d (omega arith) g in omega (arith, ih, args_turn p e k b h)
+  args_passed {e} {p = p} (suc k) a (past {n = n} b h d) l g = let ih = args_passed {n = n} k a d (omega arith) g in omega (arith, ih, args_turn p e k b h)
 
   -- no parameter of the arguments has more than is told
   args_all : (p e : ℕ) (t : List ℕ) → Param s p e t → f t ≤ π (args_of s p e)
@@ -125,7 +125,7 @@ module _ (π : Sizes → ℕ) (f : List ℕ → ℕ) (least : π no_sizes ≡ 0)
   parts_passed : {e n p q : ℕ} (k : ℕ) (w : HeaderRow) → Seeks s e n p q → n < k → next_part_of s q e ≡ good (some w) → π (args_of s w.arg_start w.arg_end) ≤ π (part_sizes_from k s p e)
   parts_passed zero w d l g = absurd (omega arith)
   parts_passed {e} {p} (suc k) w first l g = omega (arith, parts_turn p e k w g)
-  parts_passed {e} {p} (suc k) w (later v h d) l g = let ih = parts_passed k w d (omega arith) g in omega (arith, ih, parts_turn p e k v h)
+  parts_passed {e} {p = p} (suc k) w (later {n = n} v h d) l g = let ih = parts_passed {n = n} k w d (omega arith) g in omega (arith, ih, parts_turn p e k v h)
 
   -- no parameter of a part has more than is told, the parts after the first included
   parts_all : (p e : ℕ) (w : HeaderRow) (t : List ℕ) → Part s p e w → Param s w.arg_start w.arg_end t → f t ≤ π (part_sizes_of s p e)

@@ -6,7 +6,6 @@ use Rattle.std.proofs.Math.Option.{Option, none, some}
 use Rattle.common.specs.Pick.{pick}
 use Rattle.error.specs.Refusal.{Told, good, bad}
 use Rattle.statement.specs.Rows.{HeaderRow}
-use Rattle.strings.specs.Answer.{largest_u64}
 use Rattle.params.specs.Answer.{Span}
 use Rattle.params.specs.Reader.{param_of}
 use Rattle.words.specs.Answer.{span_bytes}

@@ -15,14 +15,14 @@ fn main(rt: HostRuntime) -> Result<(), AllocError> {
 
 // Lends the rooms to a run of cases.
 fn lend<R: Env + Files + Input + Print + Eprint + AllocGlobal>(rt: &R) -> Result<(), AllocError> {
-    let mut chunk = vec![in rt.alloc(); 0u8; CHUNK]?;
-    let mut out = vec![in rt.alloc(); 0u8; CHUNK]?;
-    let mut file = vec![in rt.alloc(); 0u8; SMALL_FILE]?;
-    let mut heads = vec![in rt.alloc(); 0u32; SMALL_HEADERS]?;
-    let mut rows = vec![in rt.alloc(); 0u32; SMALL_ROWS]?;
-    let mut slots = vec![in rt.alloc(); 0u64; SMALL_SLOTS]?;
-    let mut bytes = vec![in rt.alloc(); 0u8; SMALL_KEPT]?;
-    let mut again = vec![in rt.alloc(); 0u32; SMALL_ROWS]?;
+    let mut chunk = input::room(rt.alloc(), 0u8, CHUNK)?;
+    let mut out = input::room(rt.alloc(), 0u8, CHUNK)?;
+    let mut file = input::room(rt.alloc(), 0u8, SMALL_FILE)?;
+    let mut heads = input::room(rt.alloc(), 0u32, SMALL_HEADERS)?;
+    let mut rows = input::room(rt.alloc(), 0u32, SMALL_ROWS)?;
+    let mut slots = input::room(rt.alloc(), 0u64, SMALL_SLOTS)?;
+    let mut bytes = input::room(rt.alloc(), 0u8, SMALL_KEPT)?;
+    let mut again = input::room(rt.alloc(), 0u32, SMALL_ROWS)?;
     let mut ints = [0i64; 1];
     let mut reals = [0.0; 1];
     let mut ends = [0usize; 1];

@@ -71,7 +71,7 @@ fn small<R: Files + Print + Eprint + AllocGlobal, S: Read>(
     out: &mut [u8],
     pen: Pen,
 ) -> Result<Pen, AllocError> {
-    let mut file = vec![in rt.alloc(); 0u8; MIDDLE_FILE]?;
+    let mut file = input::room(rt.alloc(), 0u8, MIDDLE_FILE)?;
     match within(rt, from, file.as_mut_slice()) {
         Filled::Unread(l) => Ok(lines::told(rt, l, out, pen)),
         Filled::Whole(n) => {
@@ -94,9 +94,9 @@ fn lend_small<R: Print + AllocGlobal>(
     out: &mut [u8],
     pen: Pen,
 ) -> Result<Said, AllocError> {
-    let mut headers = vec![in rt.alloc(); 0u32; FEW_HEADERS]?;
-    let mut rows = vec![in rt.alloc(); 0u32; MIDDLE_ROWS]?;
-    let mut slots = vec![in rt.alloc(); 0u64; MIDDLE_SLOTS]?;
+    let mut headers = input::room(rt.alloc(), 0u32, FEW_HEADERS)?;
+    let mut rows = input::room(rt.alloc(), 0u32, MIDDLE_ROWS)?;
+    let mut slots = input::room(rt.alloc(), 0u64, MIDDLE_SLOTS)?;
     Ok(answered(
         rt,
         grows,
@@ -120,7 +120,7 @@ fn large<R: Files + Print + Eprint + AllocGlobal, S: Read>(
     out: &mut [u8],
     pen: Pen,
 ) -> Result<Pen, AllocError> {
-    let mut file = vec![in rt.alloc(); 0u8; LARGE_FILE]?;
+    let mut file = input::room(rt.alloc(), 0u8, LARGE_FILE)?;
     match within(rt, from, file.as_mut_slice()) {
         Filled::Unread(l) => Ok(lines::told(rt, l, out, pen)),
         Filled::Whole(n) => lend_large(rt, task, id, &file[..n], out, pen),
@@ -136,9 +136,9 @@ fn lend_large<R: Print + AllocGlobal>(
     out: &mut [u8],
     pen: Pen,
 ) -> Result<Pen, AllocError> {
-    let mut headers = vec![in rt.alloc(); 0u32; LARGE_HEADERS]?;
-    let mut rows = vec![in rt.alloc(); 0u32; LARGE_ROWS]?;
-    let mut slots = vec![in rt.alloc(); 0u64; LARGE_SLOTS]?;
+    let mut headers = input::room(rt.alloc(), 0u32, LARGE_HEADERS)?;
+    let mut rows = input::room(rt.alloc(), 0u32, LARGE_ROWS)?;
+    let mut slots = input::room(rt.alloc(), 0u64, LARGE_SLOTS)?;
     let said = answered(
         rt,
         false,

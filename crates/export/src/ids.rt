@@ -16,13 +16,7 @@ fn enough(rows: usize, count: usize, slots: usize, ids: usize) -> bool
 
 // Builds the index of the first `count` rows in the slots: 0, with what stands beside them in the first of eight numbers; or 16 where
 // `ids` has no room for eight, a record would have no slot or there are more than 2^30, and everything as it was.
-#[unsafe(no_mangle)]
-pub extern "C" fn hooflift_index(
-    rows: &[u32],
-    count: usize,
-    slots: &mut [u64],
-    ids: &mut [u64],
-) -> u8
+pub fn hooflift_index(rows: &[u32], count: usize, slots: &mut [u64], ids: &mut [u64]) -> u8
     ensures value { result ≡ index_code rows.now count slots.old ids.old }
     ensures host_indexed { HostIndexed rows.now count slots.old slots.new ids.old ids.new }
 {
@@ -36,8 +30,7 @@ pub extern "C" fn hooflift_index(
 
 // The last row with this id, by the slots and the eight numbers that `hooflift_index` left; or 4294967295 where there is none. The row that
 // is looked at first is looked at before anything is made ready for the search, which takes the numbers from the host's once more.
-#[unsafe(no_mangle)]
-pub extern "C" fn hooflift_get(rows: &[u32], slots: &[u64], ids: &[u64], id: u32) -> u32
+pub fn hooflift_get(rows: &[u32], slots: &[u64], ids: &[u64], id: u32) -> u32
     ensures { result ≡ row_number (searched rows.now slots.now (ids_by ids.now) id) }
 {
     let b = host_numbers::ids_of(ids);
@@ -50,8 +43,7 @@ pub extern "C" fn hooflift_get(rows: &[u32], slots: &[u64], ids: &[u64], id: u32
 
 // The last row of each id, or 4294967295 where there is none, at the start of `found`, in the order of the ids: 0. Or 16 where `found` is
 // shorter than the ids, and everything as it was.
-#[unsafe(no_mangle)]
-pub extern "C" fn hooflift_get_all(
+pub fn hooflift_get_all(
     rows: &[u32],
     slots: &[u64],
     beside: &[u64],

@@ -65,8 +65,7 @@ fn put_place(out: &mut [u64], reason: u64, place: u64)
 
 // Scans a file into lent rows: 0, with header rows, data rows and the largest id in `out`; or the refusal's number, with its
 // reason and place there.
-#[unsafe(no_mangle)]
-pub extern "C" fn hooflift_scan(
+pub fn hooflift_scan(
     file: &[u8],
     headers: &mut [u32],
     rows: &mut [u32],

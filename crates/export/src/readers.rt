@@ -10,8 +10,7 @@ use params::State;
 use reals::Reals;
 
 // Goes past one parameter: 0, or the refusal's number, with its place in `fault`; `place` is where the reader then stands.
-#[unsafe(no_mangle)]
-pub extern "C" fn hooflift_skip(file: &[u8], place: &mut usize, end: usize, fault: &mut usize) -> u8
+pub fn hooflift_skip(file: &[u8], place: &mut usize, end: usize, fault: &mut usize) -> u8
     ensures { HostReaderTold (skip_of file.now place.old end) result place fault }
 {
     let at = State { place: *place, end };
@@ -19,8 +18,7 @@ pub extern "C" fn hooflift_skip(file: &[u8], place: &mut usize, end: usize, faul
 }
 
 // Reads a list of reals into `out`: 0, with how many in `count`; or the refusal's number, with its place in `fault`.
-#[unsafe(no_mangle)]
-pub extern "C" fn hooflift_f64_list(
+pub fn hooflift_f64_list(
     file: &[u8],
     place: &mut usize,
     end: usize,
@@ -37,8 +35,7 @@ pub extern "C" fn hooflift_f64_list(
 }
 
 // Reads a list of any reals: as `hooflift_f64_list`, and never 13.
-#[unsafe(no_mangle)]
-pub extern "C" fn hooflift_any_f64_list(
+pub fn hooflift_any_f64_list(
     file: &[u8],
     place: &mut usize,
     end: usize,

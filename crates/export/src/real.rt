@@ -22,8 +22,7 @@ fn put_bits(which: Reals, text: &[u8], out: &mut u64) -> u8
 }
 
 // Reads a real: 0, with the bit pattern of its f64 in `out`; or 12 or 13, and `out` as it was.
-#[unsafe(no_mangle)]
-pub extern "C" fn hooflift_real(text: &[u8], out: &mut u64) -> u8
+pub fn hooflift_real(text: &[u8], out: &mut u64) -> u8
     ensures value { result ≡ real_code (real_of text.now) }
     ensures out_after { out.new ≡ real_bits (real_of text.now) out.old }
 {
@@ -31,8 +30,7 @@ pub extern "C" fn hooflift_real(text: &[u8], out: &mut u64) -> u8
 }
 
 // Reads any real, whatever its digits and its exponent: as `hooflift_real`, and never 13.
-#[unsafe(no_mangle)]
-pub extern "C" fn hooflift_any_real(text: &[u8], out: &mut u64) -> u8
+pub fn hooflift_any_real(text: &[u8], out: &mut u64) -> u8
     ensures value { result ≡ real_code (any_real_of text.now) }
     ensures out_after { out.new ≡ real_bits (any_real_of text.now) out.old }
 {

@@ -8,8 +8,7 @@ use strings::Decoded;
 
 // Finds a string's text: 0, with 0 in `place` where it is the string itself and 1 where it begins `out`, and its length in `count`; or
 // 16, and everything as it was.
-#[unsafe(no_mangle)]
-pub extern "C" fn hooflift_text(raw: &[u8], out: &mut [u8], place: &mut u64, count: &mut u64) -> u8
+pub fn hooflift_text(raw: &[u8], out: &mut [u8], place: &mut u64, count: &mut u64) -> u8
     ensures value { result ≡ text_code (decoded_of raw.now (length out.old)) }
     ensures out_after { out.new ≡ room_after raw.now out.old }
     ensures place_after { place.new ≡ text_place (decoded_of raw.now (length out.old)) place.old }
@@ -31,8 +30,7 @@ pub extern "C" fn hooflift_text(raw: &[u8], out: &mut [u8], place: &mut u64, cou
 }
 
 // How many bytes a string's text has: what `hooflift_text` needs of `out` at most. 18446744073709551615 stands for more.
-#[unsafe(no_mangle)]
-pub extern "C" fn hooflift_text_length(raw: &[u8]) -> usize
+pub fn hooflift_text_length(raw: &[u8]) -> usize
     ensures { result ≡ min largest_u64 (length (bytes_of raw.now)) }
 {
     strings::text_length(raw)

@@ -5,7 +5,7 @@ use Rattle.std.specs.Prelude.{ℕ, ◌≡◌, Bool, true, false, List, map, Floa
 use Rattle.std.proofs.Math.Option.{Option, none, some}
 use Rattle.std.specs.Float.{binary64}
 use Rattle.std.specs.Float.Ieee.{to_bits}
-use Rattle.std.specs.Borrow.{Bor}
+use Rattle.std.specs.Borrow.{MutBor}
 use denote.Triple.Both.{Both}
 use Rattle.error.specs.Refusal.{Told, good, bad}
 use Rattle.params.specs.Answer.{Read}
@@ -14,7 +14,7 @@ use Rattle.words.specs.Answer.{Shown, in_file, in_room}
 
 -- what a host lends, when a function is called and when it answers
 abbrev pub LentByHost : Type 0 → Type 0
-LentByHost A = Both (Bor A) (Bor A)
+LentByHost A = Both (MutBor A) (MutBor A)
 
 -- an answer as a number: 0, or the number of the refusal
 abbrev pub read_code : {A : Type 0} → Told A → ℕ

@@ -4,6 +4,13 @@
 // bytes. A byte of a string gives three at most. A reference in a list takes three bytes, another number two, a row of a grid three. A file that
 // fills its room is too large, so that the room has a byte more than the largest file that is read.
 
+use std::alloc::{AllocError, Global};
+
+// A room of so many zeros, or of another value.
+pub fn room<T: Copy>(alloc: Global, zero: T, n: usize) -> Result<Vec<T>, AllocError> {
+    vec![in alloc; zero; n]
+}
+
 // What is read of standard input at once, and written of standard output.
 pub const CHUNK: usize = 65536;
 

@@ -2,7 +2,7 @@
 -- xs, and of the rest that is left of them. Strings, comments and trivia are the scan's (lex/specs/Grammar.antt). Right.antt shows that
 -- ParameterEnd.antt computes just these, and that there is no other. Assumes nothing.
 -- Definitions to be believed: no law, and nothing computed that no theorem ties (docs/BELIEVE.md).
-use Rattle.std.specs.Prelude.{ℕ, zero, suc, ◌≡◌, Bool, true, false, List, [], ◌∷◌, ◌++◌}
+use Rattle.std.specs.Prelude.{ℕ, suc, ◌≡◌, true, false, List, [], ◌∷◌, ◌++◌}
 use Rattle.lex.specs.Byte.{white}
 use Rattle.lex.specs.Grammar.{Begins, OpensComment, Comment, Quotation, Trivia, Led, OpenText, OpenRemark}
 

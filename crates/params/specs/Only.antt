@@ -6,7 +6,7 @@ use Rattle.common.specs.Compare.{clash}
 use Rattle.error.specs.Refusal.{Told, good, bad}
 use Rattle.error.specs.Only.{fault_of, fault_of_told}
 use Rattle.params.specs.ParameterEnd.{cut_of}
-use Rattle.params.specs.Answer.{ParamEnd, Read, Span, told_next_param, told_opened_reader, told_emptiness, told_skipped, ended_at, EndedIn}
+use Rattle.params.specs.Answer.{Read, Span, told_next_param, told_opened_reader, told_emptiness, told_skipped, ended_at, EndedIn}
 use Rattle.params.specs.declared.State.{State}
 use Rattle.params.specs.declared.Ended.{Ended}
 use Rattle.params.specs.declared.Ended.TheVariants.{At, Open}

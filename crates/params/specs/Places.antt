@@ -6,7 +6,6 @@ use Rattle.std.proofs.Common.{sym, ◌∙◌, ap, subst, inl, inr, arith, length
 use Rattle.common.specs.Pick.{pick}
 use Rattle.common.specs.Lists.{split}
 use Rattle.error.specs.Refusal.{Refusal, refusal, Told, good, bad}
-use Rattle.lex.specs.Byte.{place}
 use Rattle.params.specs.Grammar.{Bound, Parameter, Starts}
 use Rattle.params.specs.ParameterEnd.{started}
 use Rattle.params.specs.Right.{started_is}

@@ -17,7 +17,7 @@ use Rattle.lex.specs.Answer.{Sought, at, fault, placed}
 use Rattle.lex.specs.At.{trivia_at}
 use Rattle.lex.specs.Right.{trivia_here}
 use Rattle.params.specs.ParameterEnd.{cut_of, runs_out, started, eaten}
-use Rattle.params.specs.Answer.{ParamEnd, stops_before, literal_open, Read, reading, Span, span, reader_in_file, NextParamIn}
+use Rattle.params.specs.Answer.{stops_before, literal_open, Read, reading, span, reader_in_file, NextParamIn}
 use Rattle.params.specs.Reader.{bounded, param_begun, param_of}
 use Rattle.params.specs.Skips.{emptied, empty_of, skip_of, and_then, skip_from, skips_of}
 use Rattle.params.specs.declared.State.{State}

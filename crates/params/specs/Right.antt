@@ -1,24 +1,21 @@
 -- ParameterEnd.antt computes just the parameters of Grammar.antt: what is computed is one, and there is no other; and refusal 11 means what it
 -- says there. Strings, comments and trivia by the scan's theorems (lex/specs/Right.antt). Assumes nothing.
-use Rattle.std.specs.Prelude.{ℕ, zero, suc, ◌-◌, ◌≤◌, ◌<◌, ◌≡◌, refl, Bool, true, false, ◌&&◌, ◌||◌, ◌⊎◌, List, [], ◌∷◌, ◌++◌, eqb, length}
-use Rattle.std.proofs.Common.{sym, ◌∙◌, ap, inl, inr, arith, length-append, eqb-true, eq-eqb, ne_eqb}
+use Rattle.std.specs.Prelude.{ℕ, zero, suc, ◌-◌, ◌≤◌, ◌<◌, ◌≡◌, refl, Bool, true, false, ◌⊎◌, List, [], ◌∷◌, ◌++◌, eqb, length}
+use Rattle.std.proofs.Common.{sym, ◌∙◌, ap, inl, inr, arith, length-append, eqb-true, ne_eqb}
 use Rattle.std.proofs.Math.Decide.{ℕ_discrete}
-use Rattle.std.proofs.lemmas.Bool.{eqb-false}
-use Rattle.common.specs.Pick.{pick}
 use Rattle.common.specs.Compare.{clash}
 use Rattle.lex.specs.Byte.{white}
 use Rattle.common.specs.Walk.{walk}
-use Rattle.lex.specs.Lexer.{calm, fresh, next_mode}
 use Rattle.lex.specs.Search.{trivia}
 use Rattle.lex.specs.Answer.{Sought, at, fault}
-use Rattle.lex.specs.Grammar.{Begins, OpensComment, Remarked, Comment, Inside, Quotation, Trivia, Led, OpenText, OpenRemark}
+use Rattle.lex.specs.Grammar.{Begins, OpensComment, Comment, Quotation, Trivia, OpenText, OpenRemark}
 use Rattle.lex.specs.Right.{trivia_is, trivia_open, trivia_only, trivia_open_only}
 use Rattle.lex.specs.Right.Steps.{Deaf, remark_shut, remark_open, text_ends, text_over}
 use Rattle.lex.specs.Right.Tokens.{open_text, open_remark, ReadsAsTokens, tokens, quotation_shorter, comment_shorter}
 use Rattle.lex.specs.declared.Mode.{Mode}
-use Rattle.lex.specs.declared.Mode.TheVariants.{Plain, Slash, Text, Quoted, Remark, Starred}
+use Rattle.lex.specs.declared.Mode.TheVariants.{Plain, Slash, Text, Quoted, Remark}
 use Rattle.params.specs.Grammar.{Without, Binary, OpenBinary, Ordinary, Token, Runs, RunsToToken, Trails, Bound, Parameter, Unclosed, Starts}
-use Rattle.params.specs.ParameterEnd.{Stand, stand, outside_literals, settled, solid_after, level, mode_after, binary_after, passed, cut_turn, ended_in_mode, cut_end, cut_of, runs_out, started}
+use Rattle.params.specs.ParameterEnd.{stand, cut_turn, cut_end, cut_of, runs_out, started}
 use Rattle.params.specs.Answer.{ParamEnd, stops_before, literal_open}
 
 -- the search for a parameter's end, from a state

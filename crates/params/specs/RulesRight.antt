@@ -1,5 +1,5 @@
 -- Rules.antt's rules and what Reader.antt computes are one: what is computed is so, and nothing else is. Assumes nothing.
-use Rattle.std.specs.Prelude.{ℕ, suc, ◌+◌, ◌-◌, ◌≤◌, ◌<◌, min, ◌≡◌, refl, Bool, true, false, List, [], ◌∷◌, ◌++◌, length, take, drop}
+use Rattle.std.specs.Prelude.{ℕ, suc, ◌+◌, ◌≤◌, ◌<◌, min, ◌≡◌, refl, Bool, true, false, List, [], ◌∷◌, ◌++◌, length, take, drop}
 use Rattle.std.proofs.Common.{sym, ◌∙◌, ap, append_assoc, append-nil, arith, le-leb, take-append-drop, length-take-le}
 use Rattle.common.specs.Pick.{pick}
 use Rattle.common.specs.Lists.{drop_end}

@@ -16,7 +16,6 @@ use Rattle.params.specs.Grammar.{Without, Ordinary, Token, Bound}
 use Rattle.params.specs.ParameterEnd.{cut_of}
 use Rattle.params.specs.Answer.{ParamEnd, stops_before, literal_open}
 use Rattle.params.specs.Right.{param_plainly, param_blank_step, param_comment_step, param_remark_stuck, param_string_step, param_text_stuck, binary_step, param_byte_step, token_step, bound_stops, without_cons, without_nil, binary_unended, binary_stuck}
-use Rattle.params.specs.declared.Ended.TheVariants.{At, Open}
 use Rattle.params.specs.declared.Step.{Step}
 use Rattle.params.specs.declared.Step as StepCode
 

@@ -1,14 +1,14 @@
 -- Laws for the code that seeks the next part: each way out, and that a part ends after the place it is sought from.
 -- Assumes nothing.
 use Prim.Native.Nat.{ℕ, zero, suc, ◌+◌, ◌-◌, ◌≤◌, ◌<◌}
-use Rattle.std.specs.Prelude.{◌≡◌, Bool, true, false, List, [], ◌∷◌, ◌++◌, ltb, take, drop, get_or}
+use Rattle.std.specs.Prelude.{◌≡◌, Bool, true, false, List, ◌∷◌, ◌++◌, ltb, take, drop, get_or}
 use Rattle.std.proofs.Math.Path.{refl}
 use Rattle.std.proofs.Common.{sym, ◌∙◌, ap, subst, arith, length-append, length-drop, length-take, take_all, drop-cons, lt-ltb, le-ltb}
 use Rattle.std.proofs.Math.Option.{Option, none, some}
 use Rattle.std.proofs.Math.ListN.{length}
 use Rattle.common.specs.Pick.{pick}
 use Rattle.error.specs.Refusal.{Refusal, refusal, Told, good, bad}
-use Rattle.lex.specs.Byte.{white, place}
+use Rattle.lex.specs.Byte.{place}
 use Rattle.lex.specs.Place.{place_drop}
 use Rattle.common.specs.Walk.{walk}
 use Rattle.lex.specs.Search.{closing}
@@ -17,7 +17,7 @@ use Rattle.lex.specs.Local.{closing_local}
 use Rattle.lex.specs.Right.{closing_is}
 use Rattle.record.specs.Text.{past, keyword}
 use Rattle.record.specs.Head.{header_head}
-use Rattle.record.specs.Form.{HeaderForm, Keyword}
+use Rattle.record.specs.Form.{HeaderForm}
 use Rattle.record.specs.FormRight.{headerform_is, past_is}
 use Rattle.record.specs.declared.Head.{Head}
 use Rattle.record.specs.declared.Head.TheVariants.{Bad, Complex, Simple}

@@ -1,19 +1,19 @@
 -- Part.antt's rules and what it computes are one: the next part that is computed is so, and nothing else is; and so are all parts.
 -- Assumes nothing.
-use Rattle.std.specs.Prelude.{ℕ, zero, suc, ◌+◌, ◌-◌, ◌≤◌, ◌<◌, ◌≡◌, refl, Bool, true, false, not, ◌||◌, List, [], ◌∷◌, ◌++◌, ltb, eqb, length, take, drop}
+use Rattle.std.specs.Prelude.{ℕ, zero, suc, ◌+◌, ◌-◌, ◌≤◌, ◌<◌, ◌≡◌, refl, Bool, true, false, ◌||◌, List, [], ◌∷◌, ◌++◌, ltb, eqb, length, take, drop}
 use Rattle.std.proofs.Common.{sym, ◌∙◌, ap, subst, append_assoc, arith, length-append, length-take, length-drop, take-append-drop, take_at, drop_at, length-take-le, lt-ltb, le-ltb, ltb-true, ltb-false, eqb-true, eq-eqb, ne_eqb}
 use Rattle.std.proofs.Math.Option.{Option, none, some}
 use Rattle.std.proofs.Math.Decide.{dec_lt}
 use Rattle.std.proofs.lemmas.Bool.{eqb-false}
 use Rattle.common.specs.Pick.{pick}
 use Rattle.common.specs.Compare.{clash}
-use Rattle.error.specs.Refusal.{Refusal, refusal, Told, good, bad}
+use Rattle.error.specs.Refusal.{refusal, Told, good, bad}
 use Rattle.lex.specs.Byte.{white, place}
 use Rattle.lex.specs.Search.{closing}
 use Rattle.lex.specs.Answer.{placed}
 use Rattle.record.specs.Text.{past, Keyed, opened, unopened, keyword}
 use Rattle.record.specs.Head.{header_head}
-use Rattle.record.specs.Form.{SkippedBytes, Free, NotFirst, Keyword, HeaderForm}
+use Rattle.record.specs.Form.{SkippedBytes, NotFirst, Keyword, HeaderForm}
 use Rattle.record.specs.FormRight.{past_only, past_is, keyword_is, keyword_none, headerform_only}
 use Rattle.record.specs.FormRight.Parts.{sole}
 use Rattle.record.specs.declared.Head.{Head}
@@ -23,8 +23,8 @@ use Rattle.statement.specs.Row.{argued}
 use Rattle.statement.specs.Form.{Argued}
 use Rattle.statement.specs.FormRight.{argued_only, argued_is}
 use Rattle.kinds.specs.declared.Kind.{Kind}
-use Rattle.parts.specs.Part.{part_by, part_in, next_part_of, parts_by, parts_from, parts_of, first_kind, part_of}
-use Rattle.parts.specs.Rules.{separator, BytesBetween, NextPartForm, part_before, PartsForm, part_is_kind, NoPart, IsFirstPart, FirstPart, ComplexPart}
+use Rattle.parts.specs.Part.{part_by, next_part_of, parts_by, parts_from, parts_of, first_kind, part_of}
+use Rattle.parts.specs.Rules.{separator, BytesBetween, NextPartForm, part_before, PartsForm, part_is_kind, NoPart, FirstPart, ComplexPart}
 use Rattle.parts.specs.Laws.{next_outside, next_done, next_ahead}
 
 -- what does not begin with a separator does not begin with whitespace

@@ -1,11 +1,11 @@
 -- Any real: the laws by which `scale_of`, `any_real` and `read_real` are proved. An exponent that is held up to the largest number decides as the true one does,
 -- since that far all answers are zeros and infinities; and the digits that the long path reads are those of the mantissa. Assumes nothing.
-use Rattle.std.specs.Prelude.{ℕ, zero, suc, ◌+◌, ◌*◌, ◌-◌, ◌^◌, ◌≤◌, ◌<◌, min, ◌≡◌, refl, ◌⊎◌, Bool, true, false, List, [], ◌∷◌, eqb}
-use Rattle.std.proofs.Common.{sym, ◌∙◌, ap, subst, inl, inr, zero-mul, eq-zero-or-pos, arith, eqb-true}
+use Rattle.std.specs.Prelude.{ℕ, ◌+◌, ◌*◌, ◌-◌, ◌^◌, ◌≤◌, ◌<◌, min, ◌≡◌, refl, ◌⊎◌, Bool, true, false, List, [], ◌∷◌, eqb}
+use Rattle.std.proofs.Common.{sym, ◌∙◌, ap, inl, inr, zero-mul, eq-zero-or-pos, arith, eqb-true}
 use Rattle.std.proofs.Math.Decide.{dec_lt}
 use Rattle.common.specs.Pick.{pick}
 use Rattle.common.specs.Walk.{walk, turned, on, stop}
-use Rattle.record.specs.Text.{NumberAndRest, number_and_rest, digit_turn, number_from}
+use Rattle.record.specs.Text.{number_and_rest, digit_turn, number_from}
 use Rattle.record.specs.Byte.{digit}
 use Rattle.nearest.specs.Near.{near}
 use Rattle.nearest.proofs.Borders.{near_nothing}

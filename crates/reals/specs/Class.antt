@@ -1,14 +1,13 @@
 -- The class of reals, where m and the exponent are held up to their caps: the laws of each way out of `in_class`. Assumes nothing.
-use Rattle.std.specs.Prelude.{ℕ, zero, suc, ◌+◌, ◌*◌, ◌-◌, ◌^◌, ◌≤◌, ◌<◌, min, ◌≡◌, refl, Bool, true, false, ◌&&◌, ltb, leb}
-use Rattle.std.proofs.Common.{sym, ◌∙◌, ap, subst, le_of_lt, mul_assoc, mul-one, mul_comm, arith, lt-ltb, le-ltb, le-leb, pow-add}
+use Rattle.std.specs.Prelude.{ℕ, ◌+◌, ◌*◌, ◌-◌, ◌^◌, ◌≤◌, ◌<◌, min, ◌≡◌, refl, Bool, true, false, ◌&&◌, ltb, leb}
+use Rattle.std.proofs.Common.{sym, ◌∙◌, ap, le_of_lt, mul_assoc, mul-one, arith, lt-ltb, le-ltb, le-leb, pow-add}
 use Rattle.std.proofs.lemmas.Bool.{lt-leb}
-use Rattle.common.specs.Pick.{pick}
 use Rattle.nearest.specs.Near.{near}
 use Rattle.nearest.proofs.Near.{near_same}
 use Rattle.nearest.specs.Nearest.{signed}
 use Rattle.nearest.specs.PowerLaws.{ten_pos}
 use Rattle.reals.specs.Scalar.{parsed, class_of, reaches, near_ten, mantissa_bound, largest_held}
-use Rattle.reals.specs.Answer.{Answer, read, refused, farthest}
+use Rattle.reals.specs.Answer.{read, refused, farthest}
 
 -- an exponent that is the fraction's length or more: m times 10 ^ (x - f) has the nearest f64 of m·10^x / 10^f
 pub raised_same : (m f x : ℕ) → f ≤ x → near (m * 10 ^ (x - f)) 1 ≡ near (m * 10 ^ x) (10 ^ f)

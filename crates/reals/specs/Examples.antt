@@ -1,5 +1,5 @@
 -- Examples of reals, of document 01 and of #101, and some of the points that they leave to the Rust. Assumes nothing.
-use Rattle.std.specs.Prelude.{ℕ, ◌+◌, ◌^◌, ◌≡◌, refl, pos, neg_ℤ}
+use Rattle.std.specs.Prelude.{◌+◌, ◌^◌, ◌≡◌, refl, pos, neg_ℤ}
 use Rattle.std.specs.Float.Ieee.{size}
 use Rattle.common.specs.Walk.{walk}
 use Rattle.common.specs.Bytes.{bytes}

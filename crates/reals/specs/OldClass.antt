@@ -1,6 +1,6 @@
 -- #101: "The old class keeps its answers bit for bit": what document 01's class reads, this one reads the same; 12 stays 12, and nothing else
 -- becomes it. Shown once for all classes by their two bounds. And what the class reads, the reading of any real reads the same. Assumes nothing.
-use Rattle.std.specs.Prelude.{ℕ, ◌+◌, ◌^◌, ◌≤◌, ◌<◌, ◌≡◌, refl, ◌⊎◌, Bool, true, false, List}
+use Rattle.std.specs.Prelude.{ℕ, ◌≤◌, ◌≡◌, refl, ◌⊎◌, Bool, true, false, List}
 use Rattle.std.proofs.Common.{sym, ◌∙◌, ap, inl, inr, lt_of_lt_of_le, arith}
 use Rattle.std.proofs.Math.Nat.{pow-le-pow_right}
 use Rattle.common.specs.Compare.{clash}

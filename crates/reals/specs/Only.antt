@@ -1,9 +1,9 @@
 -- "that two allowed answers coincide is proved": what a scalar is told as is one answer of the code. A float is told by its bits,
 -- and an f64's bits give it back; every NaN is one. Assumes nothing.
-use Rattle.std.specs.Prelude.{ℕ, ◌≡◌, refl, Bool, true, false, T, eqb, ℤ, Float}
+use Rattle.std.specs.Prelude.{ℕ, ◌≡◌, refl, T, eqb, ℤ}
 use Rattle.std.proofs.Common.{sym, ◌∙◌, ap}
 use Rattle.std.specs.Float.{binary64}
-use Rattle.std.specs.Float.Ieee.{to_bits, of_bits, fits}
+use Rattle.std.specs.Float.Ieee.{of_bits, fits}
 use Rattle.std.specs.Float.Ieee.Bits.{of_bits-to_bits}
 use Rattle.common.specs.Pick.{pick}
 use Rattle.reals.specs.Answer.{Answer, read, refused, told_real, told_whole, told_reference}

@@ -1,13 +1,13 @@
 -- A real, read at places of the text: what the code's parts promise put together. Assumes nothing.
-use Rattle.std.specs.Prelude.{ℕ, zero, suc, ◌+◌, ◌*◌, ◌-◌, ◌≤◌, ◌<◌, min, ◌≡◌, refl, Bool, true, false, ◌&&◌, length, take, drop}
-use Rattle.std.proofs.Common.{sym, ◌∙◌, subst, arith, eq-eqb, ne_eqb, length-drop, take-append-drop, drop-drop}
+use Rattle.std.specs.Prelude.{ℕ, ◌+◌, ◌-◌, ◌≤◌, min, ◌≡◌, refl, Bool, true, false, ◌&&◌, length, take, drop}
+use Rattle.std.proofs.Common.{sym, ◌∙◌, arith, eq-eqb, ne_eqb, length-drop, take-append-drop, drop-drop}
 use Rattle.std.proofs.Math.Path.{ap}
 use mathlib.Core.List.{List, ◌++◌}
 use Rattle.std.proofs.Math.Decide.{ℕ_discrete}
 use Rattle.std.proofs.Math.Dec.{eqb}
 use Rattle.common.specs.Pick.{pick}
-use Rattle.record.specs.Text.{NumberAndRest, number_from}
-use Rattle.reals.specs.Scalar.{unsigned, is_minus, Mantissa, fraction_of, Exponent, power, malformed, exponent_of, parsed, unparsed, parsed_real, parse_of, class_of, real_of, any_of, any_real_of, NumberAt, DecimalAt, TensAt, ClassOf, AnyAt, mantissa_bound, largest_held}
+use Rattle.record.specs.Text.{number_from}
+use Rattle.reals.specs.Scalar.{unsigned, is_minus, Mantissa, fraction_of, exponent_of, parsed, unparsed, parsed_real, parse_of, class_of, real_of, any_of, any_real_of, NumberAt, DecimalAt, TensAt, ClassOf, AnyAt, mantissa_bound}
 use Rattle.reals.specs.Which.{real_by}
 use Rattle.reals.specs.Answer.{read, refused, told_real}
 use Rattle.long_reals.specs.Number.{number_in}
@@ -18,7 +18,6 @@ use Rattle.reals.specs.declared.Reals.{Reals}
 use Rattle.reals.specs.declared.Real.{Real}
 use Rattle.reals.specs.declared.Number.{Number}
 use Rattle.reals.specs.declared.Decimal.{Decimal}
-use Rattle.reals.specs.declared.Tens.{Tens}
 use Rattle.reals.specs.declared.Tens.TheVariants.{Power, Malformed}
 
 -- two rests of a text have the same length just where they begin at one place

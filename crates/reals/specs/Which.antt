@@ -1,6 +1,6 @@
 -- Which reals are answered: those of the class, or any. Assumes nothing.
 -- Definitions to be believed: no law, and nothing computed that no theorem ties (docs/BELIEVE.md).
-use Rattle.std.specs.Prelude.{ℕ, ◌-◌, List}
+use Rattle.std.specs.Prelude.{ℕ, List}
 use Rattle.reals.specs.Answer.{Answer}
 use Rattle.reals.specs.Scalar.{real_of, any_real_of}
 use Rattle.reals.specs.declared.Reals.{Reals}

@@ -1,18 +1,17 @@
 -- Integers and references, read at places of the text. Assumes nothing.
-use Prim.Native.Nat.{ℕ, zero, suc, ◌+◌, ◌*◌, ◌-◌, ◌^◌, ◌≤◌, ◌<◌, min}
-use Rattle.std.specs.Prelude.{◌≡◌, Bool, ◌&&◌, eqb, leb, ltb, ℤ, pos, drop, get_or}
+use Prim.Native.Nat.{ℕ, ◌^◌, ◌≤◌, ◌<◌, min}
+use Rattle.std.specs.Prelude.{◌≡◌, Bool, ◌&&◌, eqb, leb, drop, get_or}
 use Rattle.std.proofs.Math.Path.{refl, sym, ap}
-use Rattle.std.proofs.Common.{◌∙◌, arith, lt-ltb, le-ltb, le-leb, ne_eqb, eq-eqb}
+use Rattle.std.proofs.Common.{◌∙◌, arith, le-ltb, le-leb, ne_eqb, eq-eqb}
 use Rattle.std.proofs.Math.Bool.{true, false}
 use mathlib.Core.List.{List, [], ◌∷◌}
 use Rattle.std.proofs.Math.Decide.{dec_le}
 use Rattle.std.proofs.lemmas.Bool.{lt-leb}
 use Rattle.std.proofs.Math.ListN.{length}
 use Rattle.common.specs.Pick.{pick}
-use Rattle.common.specs.Lists.{split, drop_end}
 use Rattle.record.specs.Text.{number_from}
 use Rattle.reals.specs.Scalar.{unsigned, is_minus, digits_only, integer_in_range, whole_of, reference_id, reference_of, PlainAt, largest_held}
-use Rattle.reals.specs.Answer.{Answer, read, refused}
+use Rattle.reals.specs.Answer.{read, refused}
 use Rattle.reals.specs.declared.Plain.{Plain}
 use Rattle.reals.specs.declared.Plain.TheVariants.{Other}
 

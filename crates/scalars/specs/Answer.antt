@@ -7,7 +7,6 @@ use Rattle.error.specs.Refusal.{refusal, Told, good, bad, told}
 use Rattle.params.specs.Reader.{param_of}
 use Rattle.params.specs.Answer.{Read, reading, Span, read_mapped}
 use Rattle.reals.specs.Answer.{Answer, read, refused}
-use Rattle.scalars.specs.declared.Truth.TheVariants.{True, False, Unknown}
 use Rattle.scalars.specs.declared.NextRef as NextRefCode
 use Rattle.scalars.specs.declared.NextOptRef as NextOptRefCode
 use Rattle.scalars.specs.declared.NextWhole as NextWholeCode

@@ -1,6 +1,6 @@
 -- Every list of bytes that the reading speaks of is a rest of the file. So a place, which is the number of bytes before a rest,
 -- points at that rest: a refusal stands where what it names begins. Assumes nothing.
-use Rattle.std.specs.Prelude.{ℕ, ◌-◌, ◌≡◌, List, [], ◌∷◌}
+use Rattle.std.specs.Prelude.{ℕ, ◌≡◌, List, [], ◌∷◌}
 use Rattle.error.specs.Refusal.{Refusal, refusal, Told, good, bad}
 use Rattle.lex.specs.Byte.{place}
 use Rattle.lex.specs.Grammar.{RecordRuns, Balanced, Deep}

@@ -2,7 +2,7 @@
 -- Assumes nothing.
 -- Definitions to be believed: no law, and nothing computed that no theorem ties (docs/BELIEVE.md).
 use Rattle.std.specs.Prelude.{ℕ, min, List, length}
-use Rattle.error.specs.Refusal.{Refusal, Told, good, bad, told}
+use Rattle.error.specs.Refusal.{Told, good, bad, told}
 use Rattle.table.specs.Table.{rows_fit, headers_fit, rows_laid, headers_laid}
 use Rattle.scan.specs.Records.{Table, largest}
 use Rattle.scan.specs.File.{scan_of}

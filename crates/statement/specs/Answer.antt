@@ -1,9 +1,8 @@
 -- What the code's answers say, of a record and of a statement.
 -- Assumes nothing.
 -- Definitions to be believed: no law, and nothing computed that no theorem ties (docs/BELIEVE.md).
-use Rattle.std.specs.Prelude.{ℕ, ◌≤◌, ◌<◌, ◌-◌, List, drop}
+use Rattle.std.specs.Prelude.{ℕ, ◌≤◌, ◌<◌, List, drop}
 use Rattle.error.specs.Refusal.{Told, good, bad, told}
-use Rattle.lex.specs.Byte.{place}
 use Rattle.statement.specs.Rows.{Row, HeaderRow, Stmt, reading_ends, statement_refused, section_now, header_statement, data_statement, told_row, header_row_of}
 use Rattle.statement.specs.declared.HeaderRead.{HeaderRead}
 use Rattle.statement.specs.declared.HeaderRead.TheVariants.{HeaderIs, NoHeader}

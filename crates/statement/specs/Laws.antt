@@ -1,14 +1,14 @@
 -- What the definitions say at places of the file: the laws that the code's proofs cite.
 -- Assumes nothing.
-use Rattle.std.specs.Prelude.{ℕ, ◌+◌, ◌-◌, ◌≤◌, ◌<◌, List, [], ◌∷◌, ◌++◌, length, take, drop}
+use Rattle.std.specs.Prelude.{ℕ, ◌+◌, ◌-◌, ◌≤◌, ◌<◌, List, length, take, drop}
 use Rattle.std.proofs.Math.Path.{◌≡◌, refl, ap}
-use Rattle.std.proofs.Common.{sym, ◌∙◌, arith, length-drop, length-append, length-take}
-use Rattle.std.proofs.Math.Seq.{drop-drop, drop-append_seam}
+use Rattle.std.proofs.Common.{sym, ◌∙◌, arith, length-drop, length-take}
+use Rattle.std.proofs.Math.Seq.{drop-drop}
 use Rattle.common.specs.Lists.{split, drop_end}
-use Rattle.error.specs.Refusal.{Refusal, refusal, Told, good, bad, told}
+use Rattle.error.specs.Refusal.{Refusal, refusal, Told, good, bad}
 use Rattle.lex.specs.Byte.{place}
 use Rattle.lex.specs.Place.{place_drop}
-use Rattle.lex.specs.Search.{trivia, record_end, closing}
+use Rattle.lex.specs.Search.{trivia, record_end}
 use Rattle.lex.specs.Answer.{Sought, at, fault, placed}
 use Rattle.record.specs.Head.{data_head, header_head}
 use Rattle.record.specs.Within.{HeadWithin, data_within, header_within}
@@ -19,8 +19,8 @@ use Rattle.lex.specs.At.{trivia_at, end_at}
 use Rattle.record.specs.Text.{before}
 use Rattle.record.specs.Word.{word_of}
 use Rattle.record.specs.declared.Word.{Word}
-use Rattle.statement.specs.Rows.{Row, row, HeaderRow, header_row, Stmt, reading_ends, statement_refused, section_now, bound}
-use Rattle.statement.specs.Row.{argued_to, record_by, record_of, header_by, header_of}
+use Rattle.statement.specs.Rows.{Row, row, HeaderRow, header_row, reading_ends, statement_refused, section_now, bound}
+use Rattle.statement.specs.Row.{argued_to, record_of, header_of}
 use Rattle.statement.specs.Statement.{header_stated, recorded, in_section, worded, ended, begun, after_trivia, statement}
 use Rattle.statement.specs.Answer.{Ahead}
 use Rattle.statement.specs.declared.Said.{Said}

@@ -1,6 +1,6 @@
 -- "that two allowed answers coincide is proved": what a statement says is one answer of the code.
 -- Assumes nothing.
-use Rattle.std.specs.Prelude.{ℕ, ◌≤◌, ◌<◌, ◌≡◌, refl, List, length}
+use Rattle.std.specs.Prelude.{ℕ, ◌≡◌, refl, List, length}
 use Rattle.std.proofs.Common.{sym, ◌∙◌, ap, arith}
 use Rattle.error.specs.Only.{fault_of, fault_of_told}
 use Rattle.lex.specs.Byte.{place}

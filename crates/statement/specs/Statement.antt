@@ -9,11 +9,10 @@ use Rattle.record.specs.Text.{before}
 use Rattle.record.specs.Word.{word_of}
 use Rattle.record.specs.declared.Word.{Word}
 use Rattle.record.specs.declared.Word.TheVariants.{Header, Data, EndSection, EndFile, Other}
-use Rattle.statement.specs.Rows.{Row, row, HeaderRow, Stmt, reading_ends, statement_refused, section_now, header_statement, data_statement}
+use Rattle.statement.specs.Rows.{Row, HeaderRow, Stmt, reading_ends, statement_refused, section_now, header_statement, data_statement}
 use Rattle.statement.specs.Row.{record_of, header_of}
 use Rattle.statement.specs.declared.Section.{Section}
 use Rattle.statement.specs.declared.Section.TheVariants.{Outside, InHeader, InData}
-use Rattle.statement.specs.declared.Said.TheVariants.{Records}
 
 -- what a header record says: its row, or its refusal
 abbrev pub header_stated : List ℕ → List ℕ → Told HeaderRow → Stmt

@@ -1,21 +1,16 @@
 -- The head of a data record by the bytes before its first `(`, whatever follows that. Assumes nothing.
-use Rattle.std.specs.Prelude.{ℕ, suc, ◌+◌, ◌-◌, ◌≤◌, ◌<◌, ◌≡◌, refl, Bool, true, false, not, List, [], ◌∷◌, ◌++◌, eqb, length, take, drop, get_or}
+use Rattle.std.specs.Prelude.{ℕ, ◌+◌, ◌≤◌, ◌<◌, ◌≡◌, refl, List, ◌∷◌, ◌++◌, length, drop, get_or}
 use Rattle.std.proofs.Common.{sym, ◌∙◌, ap, append_assoc, append-nil, arith, length-drop, length-append}
 use Rattle.std.proofs.lemmas.Bool.{eqb-false, not-true}
 use Rattle.common.specs.Lists.{split, drop_end}
-use Rattle.common.specs.Compare.{clash}
 use Rattle.lex.specs.Byte.{white}
-use Rattle.lex.specs.Grammar.{Begins}
 use Rattle.record.specs.Text.{past, number_and_rest, number_from, trail}
-use Rattle.record.specs.Byte.{digit}
 use Rattle.record.specs.Form.{Free, NoGapFirst, NoParen, value_of, Id, Keyword, Lead, HeadForm}
 use Rattle.record.specs.FormRight.{number_is, trail_only, headform_only}
 use Rattle.record.specs.FormRight.Parts.{all_front, all_back, Tailed, tail_split}
 use Rattle.record.specs.FormRight.Gaps.{gap_other, gap_more, gap_is}
 use Rattle.record.specs.Head.{data_head}
-use Rattle.record.specs.declared.Head.{Head}
-use Rattle.record.specs.declared.Head.TheVariants.{Bad, Complex, Simple}
-use Rattle.statement.specs.Usual.{Headed}
+use Rattle.record.specs.declared.Head.TheVariants.{Complex, Simple}
 
 -- the bytes before the value at a: `#`, the id's digits, whitespace, `=`, whitespace
 pub record Fronted (t : List ℕ) (id a : ℕ) : Type 0 where

@@ -1,16 +1,15 @@
 -- A usual record is the statement that Statement.antt says: its `;` is the record's end, its `)` the closing one, and its head the one of
 -- the record's text. Assumes nothing.
-use Rattle.std.specs.Prelude.{ℕ, suc, ◌+◌, ◌-◌, ◌≤◌, ◌<◌, ◌≡◌, refl, List, [], ◌∷◌, ◌++◌, length, take, drop, get_or, eqb, Bool, true, false, not}
+use Rattle.std.specs.Prelude.{ℕ, suc, ◌+◌, ◌-◌, ◌≤◌, ◌<◌, ◌≡◌, refl, List, [], ◌∷◌, ◌++◌, length, take, drop, get_or, eqb, not}
 use Rattle.std.proofs.Common.{sym, ◌∙◌, ap, arith, length-drop, length-take, length-append, take-append-drop, drop-drop, ne_eqb, eq-eqb}
 use Rattle.std.proofs.Math.ListN.{get_or-append}
 use Rattle.std.proofs.Math.Seq.{take-append-add, take-append_seam}
 use Rattle.common.specs.Lists.{split}
 use Rattle.common.specs.Compare.{clash}
-use Rattle.error.specs.Refusal.{Told, good, bad}
-use Rattle.lex.specs.Byte.{white, place}
+use Rattle.error.specs.Refusal.{good}
+use Rattle.lex.specs.Byte.{white}
 use Rattle.lex.specs.Place.{place_drop}
-use Rattle.common.specs.Walk.{walk}
-use Rattle.lex.specs.Grammar.{Trivia, Led, Begins, OpensComment}
+use Rattle.lex.specs.Grammar.{Trivia, Led}
 use Rattle.lex.specs.Search.{record_end, closing, trivia, semicolon, paren, missed}
 use Rattle.lex.specs.Answer.{Sought, at, placed}
 use Rattle.lex.specs.Local.{seek_halts}
@@ -24,17 +23,16 @@ use Rattle.record.specs.FormRight.Parts.{all_kind}
 use Rattle.record.specs.Head.{data_head}
 use Rattle.record.specs.HashOther.{hash_word}
 use Rattle.record.specs.Word.{word_of}
-use Rattle.record.specs.declared.Head.{Head}
-use Rattle.record.specs.declared.Head.TheVariants.{Bad, Complex, Simple}
+use Rattle.record.specs.declared.Head.TheVariants.{Complex, Simple}
 use Rattle.record.specs.declared.Word.TheVariants.{Other}
-use Rattle.statement.specs.Rows.{Row, row, Stmt, data_statement, mapped}
+use Rattle.statement.specs.Rows.{Row, row, data_statement, mapped}
 use Rattle.statement.specs.Row.{argued, record_of}
 use Rattle.statement.specs.Statement.{begun}
 use Rattle.statement.specs.Laws.{text_length, record_complex, record_simple, section_data, worded_at, begun_found}
-use Rattle.statement.specs.Tidy.{unended, tidy}
+use Rattle.statement.specs.Tidy.{tidy}
 use Rattle.statement.specs.TidyLaws.{end_stops}
 use Rattle.statement.specs.Usual.{is_plain_byte, Way, Headed, Walked}
-use Rattle.statement.specs.UsualLaws.{plain_other, mark_open, way_on, run_at, open_at, close_at}
+use Rattle.statement.specs.UsualLaws.{plain_other, mark_open, run_at, open_at, close_at}
 use Rattle.statement.specs.declared.Section.TheVariants.{InData}
 
 -- what the walk over a usual record finds is what the searches find

@@ -1,22 +1,20 @@
 -- A string and a comment as the scan's grammar has them end just where they are said to end; and the laws of the code's loops.
 -- Assumes nothing.
-use Rattle.std.specs.Prelude.{ℕ, zero, suc, ◌+◌, ◌-◌, ◌≤◌, ◌<◌, min, ◌≡◌, refl, Bool, true, false, not, List, [], ◌∷◌, ◌++◌, eqb, leb, length, drop, get_or}
-use Rattle.std.proofs.Common.{sym, ◌∙◌, ap, subst, arith, length-drop, drop-drop, eqb-true, eq-eqb, ne_eqb, leb-true, leb-false}
+use Rattle.std.specs.Prelude.{ℕ, zero, suc, ◌+◌, ◌-◌, ◌≤◌, ◌<◌, min, ◌≡◌, refl, Bool, true, false, List, [], ◌∷◌, ◌++◌, eqb, leb, length, drop, get_or}
+use Rattle.std.proofs.Common.{sym, ◌∙◌, ap, subst, arith, drop-drop, eqb-true, eq-eqb, ne_eqb, leb-true, leb-false}
 use Rattle.std.proofs.lemmas.Bool.{eqb-false}
 use Rattle.common.specs.Pick.{pick}
 use Rattle.common.specs.Lists.{split, drop_end}
 use Rattle.common.specs.Compare.{clash}
 use Rattle.common.specs.Walk.{walk}
-use Rattle.lex.specs.Lexer.{calm, next_mode}
 use Rattle.lex.specs.Answer.{Lacks, Stopped}
 use Rattle.lex.specs.Seek.{drop_within}
-use Rattle.lex.specs.Grammar.{Begins, OpensComment, Comment, Quotation, OpenText, OpenRemark}
+use Rattle.lex.specs.Grammar.{Begins, Comment, Quotation, OpenText, OpenRemark}
 use Rattle.lex.specs.Right.Steps.{Deaf, remark_shut, remark_open, text_ends, text_over}
 use Rattle.lex.specs.Right.Tokens.{open_text, open_remark, ReadsAsTokens, tokens}
-use Rattle.lex.specs.declared.Mode.{Mode}
-use Rattle.lex.specs.declared.Mode.TheVariants.{Plain, Slash, Text, Quoted, Remark, Starred}
+use Rattle.lex.specs.declared.Mode.TheVariants.{Plain, Quoted, Remark, Starred}
 use Rattle.tokens.specs.TokenRests.{leap_turn, leap_end, string_rest, comment_rest}
-use Rattle.tokens.specs.Answer.{from_byte, heads_with, RestAfter, ends_before, never}
+use Rattle.tokens.specs.Answer.{from_byte, heads_with, ends_before, never}
 
 -- in strings and comments a leap is deaf
 leap_deaf : Deaf leap_turn leap_end (λ m. m)

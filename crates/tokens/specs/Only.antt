@@ -1,8 +1,8 @@
 -- "that two allowed answers coincide is proved": a place that is told by what is left from there is one place. Assumes nothing.
-use Rattle.std.specs.Prelude.{ℕ, ◌≤◌, ◌<◌, ◌≡◌, refl, List, length, drop}
-use Rattle.std.proofs.Common.{sym, ◌∙◌, ap, arith, length-drop}
+use Rattle.std.specs.Prelude.{ℕ, ◌≤◌, ◌≡◌, refl, List, length, drop}
+use Rattle.std.proofs.Common.{ap, arith, length-drop}
 use Rattle.common.specs.Compare.{clash}
-use Rattle.tokens.specs.Answer.{RestAfter, told_token_end, TokenEndIn}
+use Rattle.tokens.specs.Answer.{told_token_end, TokenEndIn}
 use Rattle.tokens.specs.declared.TokenEnd.{TokenEnd}
 use Rattle.tokens.specs.declared.TokenEnd.TheVariants.{At, Never}
 

@@ -1,5 +1,5 @@
 -- RFC 3629's worked examples (section 7), and bytes that it refuses (sections 3, 4 and 10). Assumes nothing.
-use Rattle.std.specs.Prelude.{ℕ, ◌≡◌, refl, true, false, List, [], ◌∷◌, ◌++◌}
+use Rattle.std.specs.Prelude.{◌≡◌, refl, true, false, [], ◌∷◌}
 use Rattle.utf8.specs.Utf8.{encode, lead_of, valid_from, valid_of}
 use Rattle.utf8.specs.Encoding.{encode_all}
 use Rattle.utf8.specs.Answer.{invalid, valid}

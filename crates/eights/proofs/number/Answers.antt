@@ -1,6 +1,5 @@
 use Prim.Native.Nat.{ℕ, ◌≤◌}
 use mathlib.Core.Path.{sym, subst}
-use borrow.Author.Rules.{rules}
 use Rattle.eights.specs.Eights.{eight_of}
 use Rattle.eights.specs.Right.{threes, all_bounded, joined_bounds, digits_test_passed, digits_test_failed}
 use Rattle.eights.proofs.number.Goals as goal

@@ -3,7 +3,6 @@ use mathlib.Core.Path.{◌≡◌, sym, ◌∙◌, ap}
 use mathlib.Core.Bool.{Bool, cond}
 use native.Mathlib.Nat.{mod-lt}
 use native.Mathlib.Omega.{arith}
-use borrow.Author.Rules.{rules}
 use lib.Pow.{pow_mono}
 use Rattle.f64_rounding.specs.Rounding.{drop_unit_is, dropped_lt, kept_le, carry_room, rounded_is}
 use Rattle.f64_rounding.proofs.rounded_off.Goals as goal

@@ -4,7 +4,6 @@ use mathlib.Core.List.{List}
 use native.Mathlib.Omega.{arith}
 use Rattle.kinds.specs.Name.{kind_name_part_at}
 use Rattle.kinds.specs.Rules.{name_in, name_after}
-use borrow.Author.Rules.{rules}
 use Rattle.kinds.proofs.as_str.Goals as goal
 
 pub bounds-starts-row : goal.bounds-starts-row

@@ -1,4 +1,3 @@
-use borrow.Author.Rules.{rules}
 use mathlib.Core.Path.{◌∙◌, sym, refl}
 use Rattle.kinds.specs.Kind.{kind_of_keyword}
 use Rattle.kinds.proofs.intern.Goals as goal

@@ -1,10 +1,9 @@
-use borrow.Author.Rules.{rules}
 use borrow.Author.Tests.{lt-leb}
 use native.Mathlib.Omega.{arith}
-use mathlib.Core.Path.{◌≡◌, refl, ◌∙◌, ap}
-use mathlib.Core.List.{List, ◌++◌}
-use Prim.Native.Nat.{ℕ, ◌-◌, ◌≤◌}
-use lib.ListN.{length, get_or, take, drop, set, length-set}
+use mathlib.Core.Path.{refl, ◌∙◌, ap}
+use mathlib.Core.List.{List}
+use Prim.Native.Nat.{ℕ}
+use lib.ListN.{get_or, set, length-set}
 use Rattle.kinds.specs.Name.{kind_name_next, kind_name_done}
 use Rattle.kinds.proofs.put_name.Goals as goal
 

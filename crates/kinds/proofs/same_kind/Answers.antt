@@ -1,4 +1,3 @@
-use borrow.Author.Rules.{rules}
 use mathlib.Core.Path.{ap₂}
 use lib.Dec.{eqb}
 use Rattle.kinds.proofs.same_kind.Goals as goal

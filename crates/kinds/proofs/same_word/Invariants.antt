@@ -1,14 +1,8 @@
-use Rattle.common.specs.Lists.{drop_end}
-use Rattle.record.specs.Turns.{same_lengths}
 use Rattle.record.specs.Word.{same_bytes}
 use Rattle.record.specs.Byte.{upper}
-use Rattle.kinds.specs.Words.{both_stops, both_goes}
-use lib.ListN.{length, drop, length-map}
-use borrow.Author.Tests.{eq-eqb, ne_eqb}
-use borrow.Author.Rules.{rules}
-use native.Mathlib.Omega.{arith}
+use lib.ListN.{length, drop}
 use mathlib.Core.List.{map}
-use mathlib.Core.Path.{◌≡◌, sym, refl, ◌∙◌}
+use mathlib.Core.Path.{◌≡◌}
 use Prim.Native.Nat.{◌-◌, ◌≤◌}
 use Rattle.kinds.proofs.same_word.Given as goal
 

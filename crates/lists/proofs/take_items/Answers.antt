@@ -23,33 +23,6 @@ slice_bounds-take_item-end c = omega (arith, c.item_at-w.ensures.ordered, c.item
 pub overflow_add-n : goal.overflow_add-n
 overflow_add-n c = omega (arith, c.loop-n.invariant.0.few, c.loop-n.invariant.0.within)
 
-pub shape_of-refs-in-Wrong : goal.shape_of-refs-in-Wrong
-shape_of-refs-in-Wrong c = c.refs-1.given ∙ c.loop-n.invariant.1.0
-
-pub shape_of-wholes-in-Wrong : goal.shape_of-wholes-in-Wrong
-shape_of-wholes-in-Wrong c = c.wholes-1.given ∙ c.loop-n.invariant.1.1.0
-
-pub shape_of-reals-in-Wrong : goal.shape_of-reals-in-Wrong
-shape_of-reals-in-Wrong c = c.reals-1.given ∙ c.loop-n.invariant.1.1.1
-
-pub shape_of-refs-in-Outside : goal.shape_of-refs-in-Outside
-shape_of-refs-in-Outside c = c.refs-1.given ∙ c.loop-n.invariant.1.0
-
-pub shape_of-wholes-in-Outside : goal.shape_of-wholes-in-Outside
-shape_of-wholes-in-Outside c = c.wholes-1.given ∙ c.loop-n.invariant.1.1.0
-
-pub shape_of-reals-in-Outside : goal.shape_of-reals-in-Outside
-shape_of-reals-in-Outside c = c.reals-1.given ∙ c.loop-n.invariant.1.1.1
-
-pub shape_of-refs-then-bound-b : goal.shape_of-refs-then-bound-b
-shape_of-refs-then-bound-b c = c.refs-1.given ∙ c.loop-n.invariant.1.0
-
-pub shape_of-wholes-then-bound-b : goal.shape_of-wholes-then-bound-b
-shape_of-wholes-then-bound-b c = c.wholes-1.given ∙ c.loop-n.invariant.1.1.0
-
-pub shape_of-reals-then-bound-b : goal.shape_of-reals-then-bound-b
-shape_of-reals-then-bound-b c = c.reals-1.given ∙ c.loop-n.invariant.1.1.1
-
 pub returns-in-Wrong : goal.returns-in-Wrong
 returns-in-Wrong c = let t = c.args in
     let e : c.item_at-w.result.start ≡ c.item_at-w.result.start + 0 = omega arith in
@@ -75,4 +48,4 @@ loop-n-smaller c = omega (arith, c.item_at-w.ensures.within, c.item_at-w.ensures
 
 pub loop-n-preserved : goal.loop-n-preserved
 loop-n-preserved c = let t = c.args in
-    (keeping_goes (item_value t.kind) t.b.now _ _ _ _ _ c.loop-n.invariant.0 c.item_at-w.result c.item_at-w.ensures c.take_item.ensures.reals_after (ap told_verdict (sym c.in-Reads.is) ∙ c.take_item.ensures.result_value) (omega (arith, c.item_at-w.ensures.within, c.if-bound-b.false)), (c.refs-1.given ∙ c.loop-n.invariant.1.0, (c.wholes-1.given ∙ c.loop-n.invariant.1.1.0, c.reals-1.given ∙ c.loop-n.invariant.1.1.1)))
+    (keeping_goes (item_value t.kind) t.b.now _ _ _ _ _ c.loop-n.invariant.0 c.item_at-w.result c.item_at-w.ensures c.take_item.ensures.reals_after (ap told_verdict (sym c.in-Reads.is) ∙ c.take_item.ensures.result_value) (omega (arith, c.item_at-w.ensures.within, c.if-bound-b.false)), (omega arith, (omega arith, omega arith)))

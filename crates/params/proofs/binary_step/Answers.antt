@@ -1,6 +1,4 @@
-use borrow.Author.Rules.{rules}
 use Rattle.params.specs.Seek.{step_binary, step_binary_open}
-use Prim.Native.Nat.{◌-◌}
 use native.Mathlib.Omega.{arith}
 use Rattle.params.proofs.binary_step.Goals as goal
 

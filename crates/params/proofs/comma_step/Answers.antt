@@ -1,6 +1,4 @@
-use borrow.Author.Rules.{rules}
 use Rattle.params.specs.Seek.{step_comma, step_nested, on_byte}
-use Prim.Native.Nat.{◌-◌}
 use native.Mathlib.Omega.{arith}
 use Rattle.params.proofs.comma_step.Goals as goal
 

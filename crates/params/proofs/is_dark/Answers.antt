@@ -1,4 +1,3 @@
-use borrow.Author.Rules.{rules}
 use Rattle.common.specs.Compare.{clash}
 use Rattle.params.specs.ReaderLaws.{started_here}
 use native.Mathlib.Omega.{arith}

@@ -1,9 +1,7 @@
-use borrow.Author.Rules.{rules}
 use Rattle.params.specs.ReaderLaws.{in_true, empty_told}
 use Rattle.params.specs.Skips.{empty_of}
 use lib.ListN.{length}
 use lib.Seq.{length-take-le}
-use borrow.Author.Tests.{not-true, not-false}
 use mathlib.Core.Path.{refl, ◌∙◌, sym}
 use native.Mathlib.Omega.{arith}
 use Rattle.params.proofs.is_empty.Goals as goal

@@ -1,10 +1,8 @@
-use Rattle.params.specs.Seek.{ParamStep, search_from, step_plain, onward_over, onward_starts}
-use Rattle.params.specs.ParameterEnd.{cut_of}
-use lib.ListN.{length, drop}
-use Prim.Native.Nat.{ℕ, ◌-◌, ◌≤◌}
-use mathlib.Core.Path.{◌≡◌, ◌∙◌, sym, ap}
+use Rattle.params.specs.Seek.{ParamStep, step_plain, onward_over, onward_starts}
+use lib.ListN.{drop}
+use Prim.Native.Nat.{ℕ}
+use mathlib.Core.Path.{◌∙◌, sym, ap}
 use native.Mathlib.Omega.{arith}
-use borrow.Author.Rules.{rules}
 use Rattle.params.specs.declared.Step as StepCode
 use Rattle.lex.specs.Seek.{drop_within}
 use Rattle.params.proofs.param_end.Goals as goal

@@ -1,12 +1,8 @@
-use Rattle.params.specs.Seek.{ParamStep, search_from, step_plain, onward_over, onward_starts}
+use Rattle.params.specs.Seek.{search_from}
 use Rattle.params.specs.ParameterEnd.{cut_of}
 use lib.ListN.{length, drop}
-use Prim.Native.Nat.{ℕ, ◌-◌, ◌≤◌}
-use mathlib.Core.Path.{◌≡◌, ◌∙◌, sym, ap}
-use native.Mathlib.Omega.{arith}
-use borrow.Author.Rules.{rules}
-use Rattle.params.specs.declared.Step as StepCode
-use Rattle.lex.specs.Seek.{drop_within}
+use Prim.Native.Nat.{◌-◌, ◌≤◌}
+use mathlib.Core.Path.{◌≡◌}
 use Rattle.params.proofs.param_end.Given as goal
 
 abbrev pub invariant-loop-i : goal.invariant-loop-i

@@ -1,9 +1,6 @@
-use Rattle.params.specs.Seek.{search_from, step_plain}
-use lib.ListN.{length}
-use Prim.Native.Nat.{ℕ, ◌-◌, ◌≤◌}
-use mathlib.Core.Path.{◌≡◌, refl, ◌∙◌}
+use Rattle.params.specs.Seek.{step_plain}
+use mathlib.Core.Path.{refl, ◌∙◌}
 use native.Mathlib.Omega.{arith}
-use borrow.Author.Rules.{rules}
 use Rattle.params.proofs.past_plain.Goals as goal
 
 pub loop-j-init : goal.loop-j-init

@@ -1,9 +1,7 @@
-use Rattle.params.specs.Seek.{search_from, step_plain}
+use Rattle.params.specs.Seek.{search_from}
 use lib.ListN.{length}
 use Prim.Native.Nat.{ℕ, ◌-◌, ◌≤◌}
-use mathlib.Core.Path.{◌≡◌, refl, ◌∙◌}
-use native.Mathlib.Omega.{arith}
-use borrow.Author.Rules.{rules}
+use mathlib.Core.Path.{◌≡◌}
 use Rattle.params.proofs.past_plain.Given as goal
 
 abbrev pub invariant-loop-j : goal.invariant-loop-j

@@ -1,4 +1,3 @@
-use borrow.Author.Rules.{rules}
 use Rattle.params.specs.ReaderLaws.{started_at, started_open}
 use Rattle.lex.specs.Answer.{told_found_place}
 use mathlib.Core.Path.{◌∙◌, sym, ap}

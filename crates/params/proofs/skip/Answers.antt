@@ -1,4 +1,3 @@
-use borrow.Author.Rules.{rules}
 use Rattle.params.specs.Skips.{skip_of}
 use Rattle.params.specs.Answer.{read_mapped, told_next_param}
 use Rattle.error.specs.Refusal.{good}

@@ -1,9 +1,7 @@
-use Rattle.params.specs.Skips.{skip_from, skips_of}
+use Rattle.params.specs.Skips.{skips_of}
 use Rattle.params.specs.Answer.{told_skipped}
-use mathlib.Core.Path.{◌≡◌, refl, ◌∙◌, sym, ap}
-use borrow.Author.Tests.{not-true, not-false}
+use mathlib.Core.Path.{refl, ◌∙◌, sym, ap}
 use native.Mathlib.Omega.{arith}
-use borrow.Author.Rules.{rules}
 use Rattle.params.specs.ReaderLaws.{skip_stops, skip_goes, skip_ends, skips_in}
 use Rattle.params.proofs.skip_n.Goals as goal
 

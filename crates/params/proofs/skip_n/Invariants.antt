@@ -1,10 +1,5 @@
-use Rattle.params.specs.Skips.{skip_from, skips_of}
-use Rattle.params.specs.Answer.{told_skipped}
-use mathlib.Core.Path.{◌≡◌, refl, ◌∙◌, sym, ap}
-use borrow.Author.Tests.{not-true, not-false}
-use native.Mathlib.Omega.{arith}
-use borrow.Author.Rules.{rules}
-use Rattle.params.specs.ReaderLaws.{skip_stops, skip_goes, skip_ends, skips_in}
+use Rattle.params.specs.Skips.{skip_from}
+use mathlib.Core.Path.{◌≡◌}
 use Rattle.params.proofs.skip_n.Given as goal
 
 abbrev pub invariant-loop-left : goal.invariant-loop-left

@@ -1,9 +1,6 @@
-use borrow.Author.Rules.{rules}
 use Rattle.params.specs.Seek.{step_slash, comment_past, comment_stuck, on_byte}
-use Prim.Native.Nat.{◌-◌}
 use mathlib.Core.Path.{◌∙◌, sym}
 use native.Mathlib.Omega.{arith}
-use borrow.Author.Tests.{not-true, not-false}
 use Rattle.params.proofs.slash_step.Goals as goal
 
 pub returns-then-not-is_at : goal.returns-then-not-is_at

@@ -1,6 +1,4 @@
-use borrow.Author.Rules.{rules}
 use Rattle.params.specs.Seek.{param_text_past, param_text_never}
-use Prim.Native.Nat.{◌-◌}
 use Rattle.params.proofs.text_step.Goals as goal
 
 pub returns-in-At : goal.returns-in-At

@@ -1,6 +1,5 @@
-use borrow.Author.Rules.{rules}
 use Rattle.params.specs.Seek.{search_from, step_opening, step_closing, step_blank, step_other, on_byte}
-use Prim.Native.Nat.{◌-◌, ◌+◌}
+use Prim.Native.Nat.{◌+◌}
 use mathlib.Core.Path.{◌∙◌, sym, ap}
 use native.Mathlib.Omega.{arith}
 use Rattle.params.proofs.token_at.Goals as goal

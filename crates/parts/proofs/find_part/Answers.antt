@@ -1,7 +1,6 @@
 use mathlib.Core.Path.{sym, ◌∙◌, ap}
 use native.Mathlib.Omega.{arith}
-use borrow.Author.Rules.{rules}
-use Prim.Native.Nat.{◌+◌, ◌-◌, ◌≤◌}
+use Prim.Native.Nat.{◌+◌, ◌≤◌}
 use lib.ListN.{length}
 use Rattle.statement.specs.Rows.{header_row_of}
 use Rattle.parts.specs.Part.{first_of}
@@ -21,22 +20,22 @@ pub returns-in-Refused : goal.returns-in-Refused
 returns-in-Refused c = sift_refused c.args.s.now c.args.kind c.args.start c.args.end c.loop-got.i c.loop-got.got c.loop-got.invariant _ (sym c.next_part.ensures ∙ ap told_next c.in-Refused.is)
 
 pub part_is-requires : goal.part_is-requires
-part_is-requires c = 
+part_is-requires c =
     let (a, b, d, e) = next_ahead c.args.s.now c.loop-got.i c.args.end (header_row_of c.in-Is.p) (sym c.next_part.ensures ∙ ap told_next c.in-Is.is) in
     (a, b)
 
 pub overflow_add-i : goal.overflow_add-i
-overflow_add-i c = 
+overflow_add-i c =
     let (a, b, d, e) = next_ahead c.args.s.now c.loop-got.i c.args.end (header_row_of c.in-Is.p) (sym c.next_part.ensures ∙ ap told_next c.in-Is.is) in
     record { fits = omega arith }
 
 pub loop-got-smaller : goal.loop-got-smaller
-loop-got-smaller c = 
+loop-got-smaller c =
     let (a, b, d, e) = next_ahead c.args.s.now c.loop-got.i c.args.end (header_row_of c.in-Is.p) (sym c.next_part.ensures ∙ ap told_next c.in-Is.is) in
     let w : c.loop-got.i ≤ length c.args.s.now = c.loop-got.invariant.inside in
     omega arith
 
 pub loop-got-preserved : goal.loop-got-preserved
-loop-got-preserved c = 
+loop-got-preserved c =
     let p = c.in-Is.p in
     subst (λ (z : Next). Sifting c.args.s.now c.args.kind c.args.start c.args.end (p.args.end + 1) z) (sym (c.first_of-got.ensures ∙ ap (first_of c.loop-got.got p) c.part_is.ensures)) (sift_goes c.args.s.now c.args.kind c.args.start c.args.end c.loop-got.i c.loop-got.got c.loop-got.invariant p (sym c.next_part.ensures ∙ ap told_next c.in-Is.is))

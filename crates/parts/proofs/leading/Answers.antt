@@ -2,14 +2,10 @@ use Rattle.common.specs.Lists.{drop_end}
 use Rattle.record.specs.Turns.{past_stops, past_goes}
 use Rattle.record.specs.Text.{past, past_turn}
 use Rattle.parts.specs.Rules.{separator}
-use Rattle.common.specs.Walk.{walk, walk_ends}
-use lib.ListN.{length, drop}
-use borrow.Author.Tests.{not-true, not-false}
-use borrow.Author.Rules.{rules}
+use Rattle.common.specs.Walk.{walk_ends}
 use native.Mathlib.Omega.{arith}
 use mathlib.Core.List.{[]}
-use mathlib.Core.Path.{◌≡◌, sym, refl, ◌∙◌}
-use Prim.Native.Nat.{◌-◌, ◌≤◌}
+use mathlib.Core.Path.{sym, refl, ◌∙◌}
 use Rattle.parts.proofs.leading.Goals as goal
 
 pub loop-i-init : goal.loop-i-init

@@ -1,14 +1,9 @@
-use Rattle.common.specs.Lists.{drop_end}
-use Rattle.record.specs.Turns.{past_stops, past_goes}
 use Rattle.record.specs.Text.{past, past_turn}
 use Rattle.parts.specs.Rules.{separator}
-use Rattle.common.specs.Walk.{walk, walk_ends}
+use Rattle.common.specs.Walk.{walk}
 use lib.ListN.{length, drop}
-use borrow.Author.Tests.{not-true, not-false}
-use borrow.Author.Rules.{rules}
-use native.Mathlib.Omega.{arith}
 use mathlib.Core.List.{[]}
-use mathlib.Core.Path.{◌≡◌, sym, refl, ◌∙◌}
+use mathlib.Core.Path.{◌≡◌}
 use Prim.Native.Nat.{◌-◌, ◌≤◌}
 use Rattle.parts.proofs.leading.Given as goal
 

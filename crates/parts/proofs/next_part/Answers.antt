@@ -1,4 +1,3 @@
-use borrow.Author.Rules.{rules}
 use mathlib.Core.Path.{◌≡◌, sym, ◌∙◌, ap}
 use native.Mathlib.Omega.{arith}
 use Prim.Native.Nat.{◌+◌, ◌-◌}
@@ -14,7 +13,7 @@ pub returns-then-end-at : goal.returns-then-end-at
 returns-then-end-at c = next_done c.args.s.now c.args.at c.args.end c.if-s-end.false c.if-end-at.true
 
 pub part_at-requires : goal.part_at-requires
-part_at-requires c = 
+part_at-requires c =
     let b = c.args in
     let m = take (b.end - b.at) (drop b.at b.s.now) in
     let l : length m ≡ b.end - b.at = simp (length-take, length-drop) (omega arith) in

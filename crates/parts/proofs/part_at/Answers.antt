@@ -1,4 +1,3 @@
-use borrow.Author.Rules.{rules}
 use Rattle.statement.specs.Rows.{mapped, header_row}
 use Rattle.lex.specs.Answer.{told_found_place}
 use mathlib.Core.Path.{sym, ◌∙◌, ap}

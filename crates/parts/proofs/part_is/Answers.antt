@@ -1,4 +1,3 @@
-use borrow.Author.Rules.{rules}
 use mathlib.Core.Path.{◌∙◌, ap}
 use Rattle.kinds.specs.Rules.{rank_of}
 use Rattle.kinds.specs.declared.Kind.{Kind}

@@ -1,8 +1,6 @@
-use Prim.Native.Nat.{◌-◌}
 use mathlib.Core.Path.{sym, ◌∙◌}
 use native.Mathlib.Omega.{arith}
-use borrow.Author.Rules.{rules}
-use Rattle.prefixes.specs.Prefix.{Searching, order_at, within_at, word_at, search_finds, search_goes, search_ends}
+use Rattle.prefixes.specs.Prefix.{order_at, within_at, word_at, search_finds, search_goes, search_ends}
 use Rattle.prefixes.proofs.prefix_row.Goals as goal
 
 -- `prefixes::prefix_row` meets its contract: the rows before `k` have other names, and each row's part of `names` is its name.

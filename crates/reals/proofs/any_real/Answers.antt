@@ -13,7 +13,7 @@ use Rattle.reals.proofs.any_real.Goals as goal
 -- `reals::any_real` meets its contract: the wide path where m holds all digits, else the long one. Assumes nothing.
 
 pub returns-then-m-lt-MOST : goal.returns-then-m-lt-MOST
-returns-then-m-lt-MOST c = 
+returns-then-m-lt-MOST c =
     let a = c.args in
     let t = a.t.now in
     let long : length t < 2 ^ 63 = search rules in
@@ -26,7 +26,7 @@ returns-then-m-lt-MOST c =
     ∙ ap (signed a.neg) (c.scale_of-p.ensures (number_in 0 t) X (digits_in t) (number_lt t) (omega arith) e)
 
 pub returns : goal.returns
-returns c = 
+returns c =
     let a = c.args in
     let t = a.t.now in
     let long : length t < 2 ^ 63 = search rules in

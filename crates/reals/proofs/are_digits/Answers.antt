@@ -1,5 +1,4 @@
 use mathlib.Core.Path.{refl}
-use borrow.Author.Rules.{rules}
 use Rattle.reals.proofs.are_digits.Goals as goal
 
 -- `reals::are_digits` meets its contract: each of the four tests is what its call says. Assumes nothing.

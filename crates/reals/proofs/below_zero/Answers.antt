@@ -3,7 +3,6 @@ use mathlib.Core.Path.{◌≡◌, refl, sym, ap, ◌∙◌, subst}
 use mathlib.Core.Bool.{true}
 use native.Mathlib.Nat.{zero-add}
 use native.Mathlib.Omega.{arith}
-use borrow.Author.Rules.{rules}
 use borrow.Author.Tests.{le-leb, lt-leb}
 use lib.IntN.{ℤ, pos, negsuc, neg_ℤ, ◌-ℤ◌}
 use mir.Syntax.{w64}
@@ -42,20 +41,20 @@ returns-then-n-eq0 c = go c.args.n c.if-n-eq0.true
     go n e = rw e refl
 
 pub overflow_sub-result-then-n-le9223372036854775808 : goal.overflow_sub-result-then-n-le9223372036854775808
-overflow_sub-result-then-n-le9223372036854775808 c = 
+overflow_sub-result-then-n-le9223372036854775808 c =
     let n = c.args.n in
     let h : n - 1 < 2 ^ 63 = omega arith in
     fits n h
 
 pub returns-then-n-le9223372036854775808 : goal.returns-then-n-le9223372036854775808
-returns-then-n-le9223372036854775808 c = 
+returns-then-n-le9223372036854775808 c =
     let n = c.args.n in
     let z : n ≡ 0 → ⊥ = c.if-n-eq0.false in
     let h : n ≤ 2 ^ 63 = omega arith in
     lowered n z h
 
 pub returns : goal.returns
-returns c = 
+returns c =
     let n = c.args.n in
     let h : 2 ^ 63 < n = omega arith in
     rw (lt-leb n (2 ^ 63) h) refl

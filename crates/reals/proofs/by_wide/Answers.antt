@@ -1,6 +1,5 @@
 use mathlib.Core.Path.{sym, ◌∙◌, ap}
 use mathlib.Core.Bool.{Bool}
-use borrow.Author.Rules.{rules}
 use Rattle.nearest.specs.Nearest.{signed}
 use Rattle.nearest.specs.Power.{near_by}
 use Rattle.reals.proofs.by_wide.Goals as goal
@@ -8,11 +7,11 @@ use Rattle.reals.proofs.by_wide.Goals as goal
 -- `reals::by_wide` meets its contract: the wide path's answer. Assumes nothing.
 
 pub returns-then-down : goal.returns-then-down
-returns-then-down c = 
+returns-then-down c =
     let a = c.args in
     c.lowered.ensures ∙ ap (λ (d : Bool). signed a.neg (near_by d a.m a.k)) (sym c.if-down.true)
 
 pub returns : goal.returns
-returns c = 
+returns c =
     let a = c.args in
     c.raised.ensures ∙ ap (λ (d : Bool). signed a.neg (near_by d a.m a.k)) (sym c.if-down.false)

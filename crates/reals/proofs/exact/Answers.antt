@@ -20,13 +20,13 @@ pub int_to_float-x : goal.int_to_float-x
 int_to_float-x c = let m = c.args.m in let h : m ≤ 2 ^ 53 = omega (arith, c.requires) in holds m h
 
 pub returns-then-neg : goal.returns-then-neg
-returns-then-neg c = 
+returns-then-neg c =
     let m = c.args.m in
     let h : m ≤ 2 ^ 53 = omega (arith, c.requires) in
     worth_minus m h ∙ ap (λ (s : Bool). finite s (m * 2 ^ 1074)) (sym c.if-neg.true)
 
 pub returns : goal.returns
-returns c = 
+returns c =
     let m = c.args.m in
     let h : m ≤ 2 ^ 53 = omega (arith, c.requires) in
     worth_whole m h ∙ ap (λ (s : Bool). finite s (m * 2 ^ 1074)) (sym c.if-neg.false)

@@ -3,7 +3,6 @@ use native.Mathlib.Omega.{arith}
 use mathlib.Core.Path.{◌≡◌, sym, ◌∙◌}
 use mathlib.Core.Bool.{true, ◌&&◌}
 use mathlib.Core.List.{List}
-use borrow.Author.Rules.{rules}
 use lib.ListN.{get_or}
 use Rattle.common.specs.Tests.{bounds, both}
 use Rattle.record.specs.Byte.{digit}
@@ -25,7 +24,7 @@ low : (t : List ℕ) (i : ℕ) → digit (get_or t i 0) ≡ true → 48 ≤ get_
 low t i e = (bounds 48 (get_or t i 0) 57 e).0
 
 pub four_value-requires : goal.four_value-requires
-four_value-requires c = 
+four_value-requires c =
     let a = c.args in
     let f = told a.t.now a.at (sym c.are_digits.ensures ∙ c.if-are_digits.true) in
     (low a.t.now a.at f.0, low a.t.now (a.at + 1) f.1, low a.t.now (a.at + 2) f.2, low a.t.now (a.at + 3) f.3)

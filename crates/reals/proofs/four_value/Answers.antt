@@ -1,5 +1,4 @@
 use native.Mathlib.Omega.{arith}
-use borrow.Author.Rules.{rules}
 use Rattle.reals.proofs.four_value.Goals as goal
 
 -- `reals::four_value` meets its contract: a sum of four numbers, each with what it has too much. Assumes nothing.

@@ -1,4 +1,3 @@
-use borrow.Author.Rules.{rules}
 use Rattle.reals.specs.DigitLoop.{number_reading_then}
 use Rattle.reals.proofs.many_digits_from.Goals as goal
 
@@ -14,7 +13,7 @@ pub digits_from-requires : goal.digits_from-requires
 digits_from-requires c = (c.four_from-g.ensures.within, c.four_from-g.ensures.held)
 
 pub returns : goal.returns
-returns c = 
+returns c =
     let a = c.args in
     let t = a.t.now in
     let r = number_reading_then t c.eight_from-e.result.next c.eight_from-e.result.value a.cap c.four_from-g.result.value c.four_from-g.result.next c.digits_from.result c.four_from-g.ensures c.digits_from.ensures in

@@ -1,5 +1,4 @@
 use native.Mathlib.Omega.{arith}
-use borrow.Author.Rules.{rules}
 use Rattle.reals.specs.DigitLoop.{minus_here, minus_none}
 use Rattle.reals.proofs.minus_at.Goals as goal
 

@@ -1,4 +1,3 @@
-use borrow.Author.Rules.{rules}
 use Rattle.reals.proofs.parse_real.Goals as goal
 
 -- `reals::parse_real` meets its contract: a real of the class. Assumes nothing.

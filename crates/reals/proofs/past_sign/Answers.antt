@@ -1,5 +1,4 @@
 use native.Mathlib.Omega.{arith}
-use borrow.Author.Rules.{rules}
 use Rattle.reals.specs.DigitLoop.{sign_passed, sign_none, sign_end}
 use Rattle.reals.proofs.past_sign.Goals as goal
 

@@ -1,7 +1,5 @@
-use Prim.Native.Nat.{◌<◌, ◌^◌}
 use mathlib.Core.Path.{refl}
 use native.Mathlib.Omega.{arith}
-use borrow.Author.Rules.{rules}
 use lib.Ieee.{binary64, to_bits}
 use Rattle.reals.specs.Read.{no_digit, bad_tens, good_class, good_any, m_held}
 use Rattle.reals.proofs.read_real.Goals as goal
@@ -12,31 +10,30 @@ pub fraction_from-d-requires : goal.fraction_from-d-requires
 fraction_from-d-requires c = let v = c.digits_from-w.ensures.value 0 refl in (c.digits_from-w.ensures.within, omega arith)
 
 pub returns-then-point-a : goal.returns-then-point-a
-returns-then-point-a c = 
+returns-then-point-a c =
     no_digit c.args.t.now c.past_sign-a.result c.past_sign-a.ensures.0 c.past_sign-a.ensures.1 c.digits_from-w.result c.digits_from-w.ensures c.fraction_from-d.result c.fraction_from-d.ensures c.args.which c.if-point-a.true
 
 pub returns-in_default : goal.returns-in_default
-returns-in_default c = 
+returns-in_default c =
     bad_tens c.args.t.now c.past_sign-a.result c.past_sign-a.ensures.0 c.past_sign-a.ensures.1 c.digits_from-w.result c.digits_from-w.ensures c.fraction_from-d.result c.fraction_from-d.ensures c.args.which c.if-point-a.false (rw c.in_default.is at c.tens_from.ensures)
 
 pub in_class-requires : goal.in_class-requires
-in_class-requires c = 
+in_class-requires c =
     let v = c.fraction_from-d.ensures.value _ (c.digits_from-w.ensures.value 0 refl) in
     (omega (arith, v), omega arith)
 
 pub any_real-requires : goal.any_real-requires
-any_real-requires c = 
-    (
-      m_held c.args.t.now c.past_sign-a.result c.past_sign-a.ensures.0 c.past_sign-a.ensures.1 c.digits_from-w.result c.digits_from-w.ensures c.fraction_from-d.result c.fraction_from-d.ensures,
-      omega arith,
-    )
+any_real-requires c = (
+  m_held c.args.t.now c.past_sign-a.result c.past_sign-a.ensures.0 c.past_sign-a.ensures.1 c.digits_from-w.result c.digits_from-w.ensures c.fraction_from-d.result c.fraction_from-d.ensures,
+  omega arith,
+)
 
 pub returns-in-Class : goal.returns-in-Class
-returns-in-Class c = 
+returns-in-Class c =
     rw c.in-Class.is
     (good_class c.args.t.now c.past_sign-a.result c.past_sign-a.ensures.0 c.past_sign-a.ensures.1 c.digits_from-w.result c.digits_from-w.ensures c.fraction_from-d.result c.fraction_from-d.ensures c.minus_at-neg.result _ _ c.in_class.result c.if-point-a.false c.minus_at-neg.ensures (rw c.in-Power.is at c.tens_from.ensures) c.in_class.ensures)
 
 pub returns-in-Any : goal.returns-in-Any
-returns-in-Any c = 
+returns-in-Any c =
     rw c.in-Any.is
     (good_any c.args.t.now c.past_sign-a.result c.past_sign-a.ensures.0 c.past_sign-a.ensures.1 c.digits_from-w.result c.digits_from-w.ensures c.fraction_from-d.result c.fraction_from-d.ensures c.minus_at-neg.result _ _ (to_bits binary64 c.any_real.result) c.if-point-a.false c.minus_at-neg.ensures (rw c.in-Power.is at c.tens_from.ensures) c.any_real.ensures)

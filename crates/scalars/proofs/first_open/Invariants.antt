@@ -1,13 +1,7 @@
-use Rattle.common.specs.Lists.{drop_end}
 use Rattle.record.specs.Text.{past, past_turn}
-use Rattle.record.specs.Turns.{past_stops, past_goes}
-use Rattle.common.specs.Walk.{walk, walk_ends}
+use Rattle.common.specs.Walk.{walk}
 use Rattle.scalars.specs.Scalars.{unopening}
-use borrow.Author.Tests.{eq-eqb, ne_eqb}
-use borrow.Author.Rules.{rules}
-use mathlib.Core.Path.{◌≡◌, refl, ◌∙◌, sym, ap}
-use mathlib.Core.Bool.{not}
-use native.Mathlib.Omega.{arith}
+use mathlib.Core.Path.{◌≡◌}
 use lib.ListN.{length, drop}
 use Prim.Native.Nat.{◌-◌, ◌≤◌}
 use mathlib.Core.List.{[]}

@@ -1,4 +1,3 @@
-use borrow.Author.Rules.{rules}
 use Rattle.scalars.specs.Laws.{part_part, kernel_short, kernel_other, kernel_part}
 use Rattle.scalars.specs.Scalars.{inside}
 use mathlib.Core.Path.{◌≡◌, ◌∙◌, sym, ap}

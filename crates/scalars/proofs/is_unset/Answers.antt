@@ -1,4 +1,3 @@
-use borrow.Author.Rules.{rules}
 use Rattle.scalars.specs.Scalars.{is_unset}
 use Rattle.scalars.proofs.is_unset.Goals as goal
 

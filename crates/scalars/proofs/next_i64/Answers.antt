@@ -1,4 +1,3 @@
-use borrow.Author.Rules.{rules}
 use mir.ValLaws.{to_z-of_z}
 use mir.Syntax.{w64}
 use Rattle.scalars.specs.Answer.{next_of}

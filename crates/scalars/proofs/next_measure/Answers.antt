@@ -1,4 +1,3 @@
-use borrow.Author.Rules.{rules}
 use Rattle.scalars.specs.Answer.{next_of}
 use mathlib.Core.Path.{refl}
 use Rattle.scalars.proofs.next_measure.Goals as goal

@@ -1,4 +1,3 @@
-use borrow.Author.Rules.{rules}
 use Rattle.scalars.specs.Scalars.{measure_of}
 use Rattle.scalars.proofs.next_measure_f64.Goals as goal
 

@@ -1,4 +1,3 @@
-use borrow.Author.Rules.{rules}
 use mathlib.Core.Path.{refl}
 use Rattle.scalars.specs.Scalars.{truth_of}
 use Rattle.scalars.proofs.parse_truth.Goals as goal

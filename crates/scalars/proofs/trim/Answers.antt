@@ -1,4 +1,3 @@
-use borrow.Author.Rules.{rules}
 use Rattle.record.specs.HeadLaws.{trimmed_at}
 use native.Mathlib.Omega.{arith}
 use Prim.Native.Nat.{◌≤◌}

@@ -5,7 +5,6 @@ use lib.ListN.{length, take, drop, length-drop, length-take}
 use Prim.Native.Nat.{◌-◌}
 use native.Mathlib.Omega.{arith}
 use mathlib.Core.Path.{sym, ◌∙◌}
-use borrow.Author.Rules.{rules}
 use Rattle.scan.proofs.is_marked.Goals as goal
 
 pub returns-then-s-lt3 : goal.returns-then-s-lt3

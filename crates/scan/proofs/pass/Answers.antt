@@ -1,23 +1,21 @@
 use Rattle.scan.specs.ScanMemory.{header_room}
 use Rattle.scan.specs.Fits.{statement_fits, header_fits_more, record_fits_more}
-use Rattle.scan.specs.Laws.{Going, going_starts, going_refused, going_moves, header_full, record_full, going_header, going_record, pass_done, pass_failed}
+use Rattle.scan.specs.Laws.{going_starts, going_refused, going_moves, header_full, record_full, going_header, going_record, pass_done, pass_failed}
 use Rattle.scan.specs.TidyRun.{records_ran_on, records_ran_length, going_ran, tidying_ran}
-use Rattle.scan.specs.Neat.{Tidying, tidying_starts, tidying_ends, tidying_moves, tidying_header, tidying_record}
+use Rattle.scan.specs.Neat.{tidying_starts, tidying_ends, tidying_moves, tidying_header, tidying_record}
 use Rattle.statement.specs.Answer.{told_said}
 use lib.ListN.{length, drop}
-use borrow.Author.Rules.{rules}
 use native.Mathlib.Omega.{arith}
-use mathlib.Core.Path.{◌≡◌, ap, sym, refl, ◌∙◌}
-use Prim.Native.Nat.{◌-◌}
+use mathlib.Core.Path.{ap, sym, refl, ◌∙◌}
 use Rattle.scan.proofs.pass.Goals as goal
 
 pub loop-f-init : goal.loop-f-init
 loop-f-init c = let a = c.args in (
-      refl,
-      refl,
-      going_starts a.s.now (header_room a.headers.now) c.data_room-room.result a.write a.headers.now a.rows.now,
-      tidying_starts a.s.now a.known c.requires.2,
-    )
+  refl,
+  refl,
+  going_starts a.s.now (header_room a.headers.now) c.data_room-room.result a.write a.headers.now a.rows.now,
+  tidying_starts a.s.now a.known c.requires.2,
+)
 
 pub returns-in-Ends : goal.returns-in-Ends
 returns-in-Ends c = let a = c.args in

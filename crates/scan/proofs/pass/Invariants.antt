@@ -1,13 +1,8 @@
 use Rattle.scan.specs.ScanMemory.{header_room}
-use Rattle.scan.specs.Fits.{statement_fits, header_fits_more, record_fits_more}
-use Rattle.scan.specs.Laws.{Going, going_starts, going_refused, going_moves, header_full, record_full, going_header, going_record, pass_done, pass_failed}
-use Rattle.scan.specs.TidyRun.{records_ran_on, records_ran_length, going_ran, tidying_ran}
-use Rattle.scan.specs.Neat.{Tidying, tidying_starts, tidying_ends, tidying_moves, tidying_header, tidying_record}
-use Rattle.statement.specs.Answer.{told_said}
-use lib.ListN.{length, drop}
-use borrow.Author.Rules.{rules}
-use native.Mathlib.Omega.{arith}
-use mathlib.Core.Path.{◌≡◌, ap, sym, refl, ◌∙◌}
+use Rattle.scan.specs.Laws.{Going}
+use Rattle.scan.specs.Neat.{Tidying}
+use lib.ListN.{length}
+use mathlib.Core.Path.{◌≡◌}
 use Prim.Native.Nat.{◌-◌}
 use Rattle.scan.proofs.pass.Given as goal
 

@@ -1,10 +1,8 @@
 use Rattle.common.specs.Compare.{clash}
 use Rattle.scan.specs.Scan.{scan_long, scan_unmarked, scan_refused, scan_done}
 use Rattle.scan.specs.Neat.{told_passed}
-use borrow.Author.Tests.{not-true, not-false}
 use native.Mathlib.Omega.{arith}
 use mathlib.Core.Path.{ap, sym, refl, ◌∙◌}
-use borrow.Author.Rules.{rules}
 use Rattle.scan.proofs.scan.Goals as goal
 
 pub returns-then-file-gt4294967295 : goal.returns-then-file-gt4294967295

@@ -2,7 +2,6 @@ use Rattle.record.specs.Turns.{same_lengths}
 use lib.ListN.{length, length-take}
 use native.Mathlib.Omega.{arith}
 use mathlib.Core.Path.{sym}
-use borrow.Author.Rules.{rules}
 use Rattle.scan.proofs.starts_with.Goals as goal
 
 pub returns-then-t-n : goal.returns-then-t-n

@@ -1,24 +1,19 @@
-use Rattle.common.specs.Noting.{Noting, noting_none, noting_next, noting_all}
+use Rattle.common.specs.Noting.{noting_none, noting_next, noting_all}
 use Rattle.common.specs.Tests.{neither}
 use lib.Dec.{eqb}
 use lib.ListN.{get_or}
 use mathlib.Core.Path.{refl, ◌∙◌}
-use Rattle.record.specs.Text.{past}
-use Rattle.statement.specs.Usual.{spoken}
 use Rattle.statement.specs.UsualLaws.{spoken_goes}
-use lib.ListN.{drop}
 use native.Mathlib.Omega.{arith}
-use mathlib.Core.Path.{◌≡◌}
 use mathlib.Core.Bool.{◌||◌}
-use Prim.Native.Nat.{◌+◌, ◌-◌}
-use borrow.Author.Rules.{rules}
+use Prim.Native.Nat.{◌+◌}
 use Rattle.statement.proofs.block_stops.Goals as goal
 
 pub loop-k-init : goal.loop-k-init
 loop-k-init c = noting_none refl
 
 pub loop-k-preserved : goal.loop-k-preserved
-loop-k-preserved c = 
+loop-k-preserved c =
     let l = c.loop-k in
     let a = c.args in
     let j = a.i + l.k in

@@ -1,17 +1,10 @@
-use Rattle.common.specs.Noting.{Noting, noting_none, noting_next, noting_all}
-use Rattle.common.specs.Tests.{neither}
-use lib.Dec.{eqb}
-use lib.ListN.{get_or}
-use mathlib.Core.Path.{refl, ◌∙◌}
+use Rattle.common.specs.Noting.{Noting}
 use Rattle.record.specs.Text.{past}
 use Rattle.statement.specs.Usual.{spoken}
-use Rattle.statement.specs.UsualLaws.{spoken_goes}
 use lib.ListN.{drop}
-use native.Mathlib.Omega.{arith}
 use mathlib.Core.Path.{◌≡◌}
 use mathlib.Core.Bool.{◌||◌}
-use Prim.Native.Nat.{◌+◌, ◌-◌}
-use borrow.Author.Rules.{rules}
+use Prim.Native.Nat.{◌-◌}
 use Rattle.statement.proofs.block_stops.Given as goal
 
 abbrev pub invariant-loop-k : goal.invariant-loop-k

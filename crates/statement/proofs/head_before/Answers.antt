@@ -1,5 +1,4 @@
 use native.Mathlib.Omega.{arith}
-use borrow.Author.Rules.{rules}
 use Rattle.statement.proofs.head_before.Goals as goal
 
 pub value_before-requires : goal.value_before-requires

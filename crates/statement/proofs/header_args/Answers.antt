@@ -1,7 +1,6 @@
 use Rattle.statement.specs.Rows.{mapped}
 use Rattle.lex.specs.Answer.{told_found_place}
 use mathlib.Core.Path.{sym, ◌∙◌, ap}
-use borrow.Author.Rules.{rules}
 use Rattle.statement.proofs.header_args.Goals as goal
 
 pub returns-in-Refused : goal.returns-in-Refused

@@ -2,7 +2,6 @@ use Rattle.statement.specs.Usual.{is_looked_at, marks}
 use lib.Dec.{eqb}
 use mathlib.Core.Path.{ap}
 use Prim.Native.Nat.{ℕ, ◌/◌, ◌%◌, ◌^◌}
-use borrow.Author.Rules.{rules}
 use Rattle.statement.proofs.is_mark.Goals as goal
 
 pub returns : goal.returns

@@ -1,6 +1,5 @@
 use native.Mathlib.Omega.{arith}
 use borrow.Author.Tests.{not-true}
-use borrow.Author.Rules.{rules}
 use Rattle.common.specs.Compare.{clash}
 use Rattle.statement.proofs.is_open.Goals as goal
 

@@ -1,6 +1,5 @@
 use Rattle.statement.specs.TidyLaws.{next_not, next_by_distance}
 use native.Mathlib.Omega.{arith}
-use borrow.Author.Rules.{rules}
 use Rattle.statement.proofs.just_before.Goals as goal
 
 pub returns-then-b-a : goal.returns-then-b-a

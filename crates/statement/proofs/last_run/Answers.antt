@@ -2,14 +2,11 @@ use Rattle.common.specs.Lists.{drop_end}
 use Rattle.record.specs.Turns.{past_stops, past_goes}
 use Rattle.record.specs.Text.{past, past_turn}
 use Rattle.statement.specs.Usual.{is_plain_byte}
-use Rattle.common.specs.Walk.{walk, walk_ends}
-use lib.ListN.{length, drop}
-use borrow.Author.Rules.{rules}
+use Rattle.common.specs.Walk.{walk_ends}
 use native.Mathlib.Omega.{arith}
 use mathlib.Core.List.{[]}
 use mathlib.Core.Bool.{not}
-use mathlib.Core.Path.{◌≡◌, ap, sym, refl, ◌∙◌}
-use Prim.Native.Nat.{◌-◌, ◌≤◌}
+use mathlib.Core.Path.{ap, sym, refl, ◌∙◌}
 use Rattle.statement.proofs.last_run.Goals as goal
 
 pub loop-i-init : goal.loop-i-init

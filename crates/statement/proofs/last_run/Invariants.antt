@@ -1,14 +1,9 @@
-use Rattle.common.specs.Lists.{drop_end}
-use Rattle.record.specs.Turns.{past_stops, past_goes}
 use Rattle.record.specs.Text.{past, past_turn}
 use Rattle.statement.specs.Usual.{is_plain_byte}
-use Rattle.common.specs.Walk.{walk, walk_ends}
+use Rattle.common.specs.Walk.{walk}
 use lib.ListN.{length, drop}
-use borrow.Author.Rules.{rules}
-use native.Mathlib.Omega.{arith}
 use mathlib.Core.List.{[]}
-use mathlib.Core.Bool.{not}
-use mathlib.Core.Path.{◌≡◌, ap, sym, refl, ◌∙◌}
+use mathlib.Core.Path.{◌≡◌}
 use Prim.Native.Nat.{◌-◌, ◌≤◌}
 use Rattle.statement.proofs.last_run.Given as goal
 

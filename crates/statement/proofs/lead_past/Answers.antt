@@ -2,7 +2,6 @@ use Rattle.statement.specs.UsualLaws.{space_at}
 use Rattle.statement.specs.UsualRight.{lead_at}
 use Prim.Native.Nat.{◌+◌}
 use native.Mathlib.Omega.{arith}
-use borrow.Author.Rules.{rules}
 use Rattle.statement.proofs.lead_past.Goals as goal
 
 pub returns : goal.returns

@@ -1,6 +1,5 @@
 use Rattle.statement.specs.UsualLaws.{open_at, close_at, other_at}
 use native.Mathlib.Omega.{arith}
-use borrow.Author.Rules.{rules}
 use Rattle.statement.proofs.mark_step.Goals as goal
 
 pub returns-then-c-eq40 : goal.returns-then-c-eq40

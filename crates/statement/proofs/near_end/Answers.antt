@@ -1,11 +1,6 @@
-use Rattle.record.specs.Text.{past}
-use Rattle.statement.specs.Tidy.{unended}
 use Rattle.statement.specs.TidyLaws.{end_stops, end_goes, tidy_end_none}
-use lib.ListN.{length, drop}
 use native.Mathlib.Omega.{arith}
-use mathlib.Core.Path.{◌≡◌, refl, ◌∙◌}
-use Prim.Native.Nat.{◌-◌, ◌≤◌}
-use borrow.Author.Rules.{rules}
+use mathlib.Core.Path.{refl, ◌∙◌}
 use Rattle.statement.proofs.near_end.Goals as goal
 
 pub loop-i-init : goal.loop-i-init

@@ -2,7 +2,6 @@ use Rattle.statement.specs.TidyLaws.{tidy_noted}
 use Rattle.statement.specs.Rows.{told_row}
 use native.Mathlib.Omega.{arith}
 use mathlib.Core.Path.{sym}
-use borrow.Author.Rules.{rules}
 use Rattle.statement.proofs.note.Goals as goal
 
 pub first_end-end-requires : goal.first_end-end-requires

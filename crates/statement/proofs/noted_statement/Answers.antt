@@ -5,7 +5,6 @@ use Rattle.lex.specs.Answer.{told_found_place}
 use lib.ListN.{length}
 use native.Mathlib.Omega.{arith}
 use mathlib.Core.Path.{sym, ◌∙◌, ap}
-use borrow.Author.Rules.{rules}
 use Rattle.statement.proofs.noted_statement.Goals as goal
 
 pub returns-then-s-i : goal.returns-then-s-i

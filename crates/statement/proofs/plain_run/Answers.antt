@@ -1,11 +1,7 @@
 use Rattle.statement.specs.UsualLaws.{run_stops, run_goes}
-use Rattle.statement.specs.Usual.{is_plain_byte}
-use Rattle.record.specs.Text.{past}
-use lib.ListN.{length, drop}
-use borrow.Author.Rules.{rules}
 use native.Mathlib.Omega.{arith}
-use mathlib.Core.Path.{◌≡◌, sym, refl, ◌∙◌}
-use Prim.Native.Nat.{◌+◌, ◌-◌, ◌≤◌}
+use mathlib.Core.Path.{sym, refl, ◌∙◌}
+use Prim.Native.Nat.{◌+◌}
 use Rattle.statement.proofs.plain_run.Goals as goal
 
 pub loop-i-init : goal.loop-i-init

@@ -1,11 +1,8 @@
-use Rattle.statement.specs.UsualLaws.{run_stops, run_goes}
 use Rattle.statement.specs.Usual.{is_plain_byte}
 use Rattle.record.specs.Text.{past}
 use lib.ListN.{length, drop}
-use borrow.Author.Rules.{rules}
-use native.Mathlib.Omega.{arith}
-use mathlib.Core.Path.{◌≡◌, sym, refl, ◌∙◌}
-use Prim.Native.Nat.{◌+◌, ◌-◌, ◌≤◌}
+use mathlib.Core.Path.{◌≡◌}
+use Prim.Native.Nat.{◌-◌, ◌≤◌}
 use Rattle.statement.proofs.plain_run.Given as goal
 
 abbrev pub invariant-loop-i : goal.invariant-loop-i

@@ -3,7 +3,6 @@ use lib.ListN.{take, drop}
 use Prim.Native.Nat.{◌-◌}
 use native.Mathlib.Omega.{arith}
 use mathlib.Core.Path.{sym, ◌∙◌}
-use borrow.Author.Rules.{rules}
 use Rattle.statement.proofs.scan_data_record.Goals as goal
 
 pub overflow_add-start : goal.overflow_add-start

@@ -4,7 +4,6 @@ use lib.ListN.{take, drop}
 use Prim.Native.Nat.{◌-◌}
 use native.Mathlib.Omega.{arith}
 use mathlib.Core.Path.{sym, ◌∙◌}
-use borrow.Author.Rules.{rules}
 use Rattle.statement.proofs.scan_header_record.Goals as goal
 
 pub overflow_add-keyword : goal.overflow_add-keyword

@@ -3,7 +3,6 @@ use Rattle.lex.specs.At.{end_at}
 use Rattle.lex.specs.Answer.{told_found_place}
 use native.Mathlib.Omega.{arith}
 use mathlib.Core.Path.{sym, ◌∙◌, ap}
-use borrow.Author.Rules.{rules}
 use Rattle.statement.proofs.sought_at.Goals as goal
 
 pub record_said-requires : goal.record_said-requires

@@ -1,6 +1,5 @@
 use Rattle.statement.specs.Tidy.{tidy}
 use mathlib.Core.Path.{◌∙◌, ap}
-use borrow.Author.Rules.{rules}
 use Rattle.statement.proofs.statement_at.Goals as goal
 
 -- what was sought, and the note of it

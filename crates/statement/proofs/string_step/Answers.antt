@@ -5,7 +5,6 @@ use Prim.Native.Nat.{◌+◌}
 use mathlib.Core.Path.{subst}
 use lib.ListN.{drop}
 use native.Mathlib.Omega.{arith}
-use borrow.Author.Rules.{rules}
 use Rattle.statement.proofs.string_step.Goals as goal
 
 pub returns-in-Single : goal.returns-in-Single

@@ -1,10 +1,5 @@
-use Rattle.record.specs.Text.{past}
-use Rattle.statement.specs.Usual.{spoken}
-use lib.ListN.{length, drop}
 use native.Mathlib.Omega.{arith}
-use mathlib.Core.Path.{◌≡◌, refl, ◌∙◌}
-use Prim.Native.Nat.{◌-◌, ◌≤◌}
-use borrow.Author.Rules.{rules}
+use mathlib.Core.Path.{refl, ◌∙◌}
 use Rattle.statement.proofs.text_blocks.Goals as goal
 
 pub loop-i-init : goal.loop-i-init

@@ -1,10 +1,8 @@
 use Rattle.record.specs.Text.{past}
 use Rattle.statement.specs.Usual.{spoken}
 use lib.ListN.{length, drop}
-use native.Mathlib.Omega.{arith}
-use mathlib.Core.Path.{◌≡◌, refl, ◌∙◌}
+use mathlib.Core.Path.{◌≡◌}
 use Prim.Native.Nat.{◌-◌, ◌≤◌}
-use borrow.Author.Rules.{rules}
 use Rattle.statement.proofs.text_blocks.Given as goal
 
 abbrev pub invariant-loop-i : goal.invariant-loop-i

@@ -1,11 +1,6 @@
-use Rattle.record.specs.Text.{past}
-use Rattle.statement.specs.Usual.{spoken}
 use Rattle.statement.specs.UsualLaws.{spoken_stops, spoken_goes}
-use lib.ListN.{drop}
-use borrow.Author.Rules.{rules}
 use native.Mathlib.Omega.{arith}
-use mathlib.Core.Path.{◌≡◌, refl, sym, ◌∙◌}
-use Prim.Native.Nat.{◌-◌, ◌≤◌}
+use mathlib.Core.Path.{refl, sym, ◌∙◌}
 use Rattle.statement.proofs.text_bytes.Goals as goal
 
 pub loop-i-init : goal.loop-i-init

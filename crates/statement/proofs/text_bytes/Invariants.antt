@@ -1,10 +1,7 @@
 use Rattle.record.specs.Text.{past}
 use Rattle.statement.specs.Usual.{spoken}
-use Rattle.statement.specs.UsualLaws.{spoken_stops, spoken_goes}
 use lib.ListN.{drop}
-use borrow.Author.Rules.{rules}
-use native.Mathlib.Omega.{arith}
-use mathlib.Core.Path.{◌≡◌, refl, sym, ◌∙◌}
+use mathlib.Core.Path.{◌≡◌}
 use Prim.Native.Nat.{◌-◌, ◌≤◌}
 use Rattle.statement.proofs.text_bytes.Given as goal
 

@@ -1,7 +1,6 @@
 use Rattle.statement.specs.UsualLaws.{spoken_last}
 use native.Mathlib.Omega.{arith}
 use mathlib.Core.Path.{◌∙◌}
-use borrow.Author.Rules.{rules}
 use Rattle.statement.proofs.text_run.Goals as goal
 
 pub returns-then-i-near : goal.returns-then-i-near

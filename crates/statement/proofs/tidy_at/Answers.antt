@@ -4,7 +4,6 @@ use lib.ListN.{take, drop}
 use Prim.Native.Nat.{◌-◌}
 use native.Mathlib.Omega.{arith}
 use mathlib.Core.Path.{sym, ◌∙◌}
-use borrow.Author.Rules.{rules}
 use Rattle.statement.proofs.tidy_at.Goals as goal
 
 pub overflow_add-args : goal.overflow_add-args

@@ -1,4 +1,3 @@
-use borrow.Author.Rules.{rules}
 use Rattle.statement.proofs.usual_at.Goals as goal
 
 pub returns-in-InData : goal.returns-in-InData

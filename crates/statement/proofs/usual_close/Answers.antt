@@ -1,9 +1,6 @@
 use Rattle.statement.specs.UsualLaws.{way_none, way_on, run_at, stop_at}
-use Rattle.statement.specs.Usual.{Way}
-use Prim.Native.Nat.{◌-◌, ◌≤◌}
-use lib.ListN.{length, drop}
+use lib.ListN.{drop}
 use native.Mathlib.Omega.{arith}
-use borrow.Author.Rules.{rules}
 use Rattle.statement.proofs.usual_close.Goals as goal
 
 pub loop-from-init : goal.loop-from-init

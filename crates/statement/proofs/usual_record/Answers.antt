@@ -1,6 +1,5 @@
 use Rattle.statement.specs.UsualRight.{walked, run_free}
 use native.Mathlib.Omega.{arith}
-use borrow.Author.Rules.{rules}
 use Rattle.statement.proofs.usual_record.Goals as goal
 
 pub head_before-requires : goal.head_before-requires

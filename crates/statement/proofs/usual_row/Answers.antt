@@ -1,6 +1,5 @@
 use Rattle.statement.specs.UsualRight.{complex_said, simple_said, head_fits, tidy_walked}
 use native.Mathlib.Omega.{arith}
-use borrow.Author.Rules.{rules}
 use Rattle.statement.proofs.usual_row.Goals as goal
 
 pub overflow_add-keyword : goal.overflow_add-keyword

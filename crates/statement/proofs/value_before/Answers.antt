@@ -2,7 +2,6 @@ use Prim.Native.Nat.{◌+◌}
 use Rattle.statement.specs.UsualLaws.{space_at}
 use Rattle.statement.specs.UsualHead.{Fronted, fronted, head_complex, head_simple}
 use native.Mathlib.Omega.{arith}
-use borrow.Author.Rules.{rules}
 use Rattle.statement.proofs.value_before.Goals as goal
 
 pub returns-then-t-a : goal.returns-then-t-a

@@ -1,7 +1,6 @@
 use native.Mathlib.Omega.{arith}
 use borrow.Author.Tests.{eqb-true, eq-eqb}
 use Rattle.common.specs.Compare.{clash}
-use borrow.Author.Rules.{rules}
 use Rattle.table.proofs.all_have.Goals as goal
 
 pub returns-then-to-from : goal.returns-then-to-from
@@ -20,7 +19,7 @@ pub returns-then-n-highest : goal.returns-then-n-highest
 returns-then-n-highest c = ((λ z. clash (cc)), λ h. let f = c.highest.ensures.1 c.args.n h.some h.below in let t = c.if-n-highest.true in absurd (omega (arith, f, t)))
 
 pub misses-requires : goal.misses-requires
-misses-requires c = 
+misses-requires c =
     let t = c.if-n-highest.false in
     let r = c.if-rows_fit-n.false in
     let e = c.rows_fit.ensures in
@@ -30,7 +29,7 @@ misses-requires c =
     (omega (arith, a), omega (arith, b), omega (arith, d), λ j x y. let q = c.highest.ensures.0 j x y in omega (arith, q, t, r, e))
 
 pub returns : goal.returns
-returns c = 
+returns c =
     let t = c.if-n-highest.false in
     let r = c.if-rows_fit-n.false in
     let e = c.rows_fit.ensures in

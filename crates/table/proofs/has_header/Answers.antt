@@ -3,7 +3,6 @@ use native.Mathlib.Omega.{arith}
 use lib.ListN.{length}
 use borrow.Author.Tests.{le-ltb}
 use Rattle.table.specs.Laws.{last_test}
-use borrow.Author.Rules.{rules}
 use Rattle.table.proofs.has_header.Goals as goal
 
 pub returns-then-k-heads : goal.returns-then-k-heads

@@ -1,6 +1,5 @@
 use lib.ListN.{length}
 use Rattle.table.specs.Laws.{last_test}
-use borrow.Author.Rules.{rules}
 use Rattle.table.proofs.has_row.Goals as goal
 
 pub returns : goal.returns

@@ -1,7 +1,5 @@
 use native.Mathlib.Omega.{arith}
-use Prim.Native.Nat.{ℕ, ◌+◌, ◌-◌, ◌≤◌, ◌<◌}
-use borrow.Author.Rules.{rules}
-use Rattle.table.specs.Table.{AllBelow}
+use Prim.Native.Nat.{◌+◌}
 use Rattle.table.specs.Sweeps.{below_next}
 use Rattle.table.proofs.highest.Goals as goal
 
@@ -9,7 +7,7 @@ pub loop-i-init : goal.loop-i-init
 loop-i-init c = (omega arith, omega arith, (λ j x y. absurd (omega arith)), λ m p h. p)
 
 pub loop-i-preserved : goal.loop-i-preserved
-loop-i-preserved c = 
+loop-i-preserved c =
     let a = c.args in
     let l = c.loop-i in
     let e = c.greater-top.ensures in

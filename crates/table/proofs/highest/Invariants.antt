@@ -1,8 +1,5 @@
-use native.Mathlib.Omega.{arith}
 use Prim.Native.Nat.{ℕ, ◌+◌, ◌-◌, ◌≤◌, ◌<◌}
-use borrow.Author.Rules.{rules}
 use Rattle.table.specs.Table.{AllBelow}
-use Rattle.table.specs.Sweeps.{below_next}
 use Rattle.table.proofs.highest.Given as goal
 
 abbrev pub invariant-loop-i : goal.invariant-loop-i

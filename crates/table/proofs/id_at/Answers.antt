@@ -3,7 +3,6 @@ use mathlib.Core.Path.{sym, ◌∙◌, ap}
 use native.Mathlib.Omega.{arith}
 use lib.ListN.{get_or}
 use Rattle.table.specs.Laws.{field_there, field_none}
-use borrow.Author.Rules.{rules}
 use Rattle.table.proofs.id_at.Goals as goal
 
 pub returns-then-at-rows : goal.returns-then-at-rows

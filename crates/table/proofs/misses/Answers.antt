@@ -1,9 +1,6 @@
 use native.Mathlib.Omega.{arith}
-use mathlib.Core.Path.{◌≡◌, sym, ◌∙◌}
-use Prim.Native.Nat.{◌+◌, ◌-◌, ◌≤◌}
+use mathlib.Core.Path.{sym, ◌∙◌}
 use lib.ListN.{get_or}
-use borrow.Author.Rules.{rules}
-use Rattle.table.specs.Table.{AllIds}
 use Rattle.table.specs.Sweeps.{ids_next, id_there}
 use Rattle.table.proofs.misses.Goals as goal
 
@@ -26,7 +23,7 @@ pub overflow_add-missed : goal.overflow_add-missed
 overflow_add-missed c = let l = c.loop-i in let e = c.differs-missed.ensures.0 in let m = l.invariant.2 in record { fits = omega (arith, e, m) }
 
 pub loop-i-preserved : goal.loop-i-preserved
-loop-i-preserved c = 
+loop-i-preserved c =
     let a = c.args in
     let p = c.requires in
     let l = c.loop-i in

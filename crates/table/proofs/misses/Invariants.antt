@@ -1,10 +1,6 @@
-use native.Mathlib.Omega.{arith}
-use mathlib.Core.Path.{◌≡◌, sym, ◌∙◌}
+use mathlib.Core.Path.{◌≡◌}
 use Prim.Native.Nat.{◌+◌, ◌-◌, ◌≤◌}
-use lib.ListN.{get_or}
-use borrow.Author.Rules.{rules}
 use Rattle.table.specs.Table.{AllIds}
-use Rattle.table.specs.Sweeps.{ids_next, id_there}
 use Rattle.table.proofs.misses.Given as goal
 
 abbrev pub invariant-loop-i : goal.invariant-loop-i

@@ -1,7 +1,6 @@
 use mathlib.Core.Path.{sym, refl, ◌∙◌}
 use native.Mathlib.Omega.{arith}
 use borrow.Author.Tests.{ltb-true}
-use borrow.Author.Rules.{rules}
 use Rattle.table.proofs.put_header.Goals as goal
 
 pub overflow_mul-k : goal.overflow_mul-k

@@ -6,7 +6,6 @@ use native.Mathlib.Numerals.{towards_suc}
 use borrow.Author.Tests.{lt-ltb}
 use lib.ListN.{length, get_or}
 use Rattle.statement.specs.Rows.{HeaderRow, row}
-use borrow.Author.Rules.{rules}
 use Rattle.table.proofs.row_there.Goals as goal
 
 pub returns : goal.returns

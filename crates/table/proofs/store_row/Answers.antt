@@ -6,7 +6,6 @@ use lib.ListN.{length, length-set}
 use lib.Seq.{length-sets}
 use native.Mathlib.Numerals.{towards_suc}
 use native.Mathlib.Omega.{arith}
-use borrow.Author.Rules.{rules}
 use Rattle.table.proofs.store_row.Goals as goal
 
 pub bounds-out-at-2 : goal.bounds-out-at-2

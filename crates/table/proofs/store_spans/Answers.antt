@@ -1,7 +1,4 @@
-use lib.ListN.{length-set}
 use native.Mathlib.Numerals.{towards_suc}
-use native.Mathlib.Omega.{arith}
-use borrow.Author.Rules.{rules}
 use Rattle.table.proofs.store_spans.Goals as goal
 
 pub returns : goal.returns

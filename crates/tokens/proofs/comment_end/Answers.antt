@@ -1,9 +1,8 @@
 use Rattle.lex.specs.Seek.{drop_within}
-use lib.ListN.{length, drop}
-use Prim.Native.Nat.{ℕ, ◌-◌, ◌≤◌, min, ◌+◌}
-use mathlib.Core.Path.{◌≡◌, ◌∙◌, sym, ap}
+use lib.ListN.{drop}
+use Prim.Native.Nat.{ℕ, ◌+◌}
+use mathlib.Core.Path.{◌∙◌, sym, ap}
 use native.Mathlib.Omega.{arith}
-use borrow.Author.Rules.{rules}
 use Rattle.tokens.specs.Laws.{comment_none, comment_last, comment_goes_on, heads_short}
 use Rattle.tokens.specs.TokenRests.{comment_rest}
 use Rattle.tokens.proofs.comment_end.Goals as goal

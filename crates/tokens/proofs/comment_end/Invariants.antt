@@ -1,10 +1,6 @@
-use Rattle.lex.specs.Seek.{drop_within}
 use lib.ListN.{length, drop}
-use Prim.Native.Nat.{ℕ, ◌-◌, ◌≤◌, min, ◌+◌}
-use mathlib.Core.Path.{◌≡◌, ◌∙◌, sym, ap}
-use native.Mathlib.Omega.{arith}
-use borrow.Author.Rules.{rules}
-use Rattle.tokens.specs.Laws.{comment_none, comment_last, comment_goes_on, heads_short}
+use Prim.Native.Nat.{◌-◌, ◌≤◌, min}
+use mathlib.Core.Path.{◌≡◌}
 use Rattle.tokens.specs.TokenRests.{comment_rest}
 use Rattle.tokens.proofs.comment_end.Given as goal
 

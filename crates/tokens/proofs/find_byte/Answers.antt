@@ -1,5 +1,4 @@
 use Rattle.tokens.specs.Laws.{byte_stopped}
-use borrow.Author.Rules.{rules}
 use Rattle.tokens.proofs.find_byte.Goals as goal
 
 pub returns : goal.returns

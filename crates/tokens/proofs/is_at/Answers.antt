@@ -1,6 +1,4 @@
-use borrow.Author.Rules.{rules}
 use Rattle.tokens.specs.Laws.{heads_at, heads_past}
-use Prim.Native.Nat.{◌-◌}
 use native.Mathlib.Omega.{arith}
 use Rattle.tokens.proofs.is_at.Goals as goal
 

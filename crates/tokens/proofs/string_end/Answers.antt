@@ -1,7 +1,6 @@
 use Rattle.lex.specs.Answer.{TextEnds}
 use Rattle.tokens.specs.Laws.{string_only, string_never_only}
 use mathlib.Core.Path.{sym, subst}
-use borrow.Author.Rules.{rules}
 use Rattle.tokens.proofs.string_end.Goals as goal
 
 pub returns-in-After : goal.returns-in-After

@@ -1,10 +1,6 @@
 use native.Mathlib.Omega.{arith}
-use Prim.Native.Nat.{◌-◌, ◌≤◌}
-use mathlib.Core.Path.{◌≡◌, refl, sym, ◌∙◌}
-use lib.ListN.{length, drop}
-use Rattle.utf8.specs.Utf8.{valid_of}
+use mathlib.Core.Path.{refl, sym, ◌∙◌}
 use Rattle.utf8.specs.Laws.{valid_one, valid_ends, valid_here, valid_fails}
-use borrow.Author.Rules.{rules}
 use Rattle.utf8.proofs.is_valid.Goals as goal
 
 pub loop-i-init : goal.loop-i-init

@@ -1,10 +1,7 @@
-use native.Mathlib.Omega.{arith}
 use Prim.Native.Nat.{◌-◌, ◌≤◌}
-use mathlib.Core.Path.{◌≡◌, refl, sym, ◌∙◌}
+use mathlib.Core.Path.{◌≡◌}
 use lib.ListN.{length, drop}
 use Rattle.utf8.specs.Utf8.{valid_of}
-use Rattle.utf8.specs.Laws.{valid_one, valid_ends, valid_here, valid_fails}
-use borrow.Author.Rules.{rules}
 use Rattle.utf8.proofs.is_valid.Given as goal
 
 abbrev pub invariant-loop-i : goal.invariant-loop-i

@@ -1,4 +1,3 @@
-use borrow.Author.Rules.{rules}
 use Rattle.utf8.specs.Laws.{encode_one}
 use Rattle.utf8.proofs.put_one.Goals as goal
 

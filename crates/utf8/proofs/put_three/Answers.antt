@@ -1,7 +1,4 @@
-use borrow.Author.Rules.{rules}
-use lib.ListN.{length-set}
 use native.Mathlib.Numerals.{towards_suc}
-use native.Mathlib.Omega.{arith}
 use Rattle.utf8.specs.Laws.{encode_three}
 use Rattle.utf8.proofs.put_three.Goals as goal
 

@@ -1,4 +1,3 @@
-use borrow.Author.Rules.{rules}
 use mathlib.Core.Path.{ap, ◌∙◌}
 use Rattle.common.specs.Tests.{bounds}
 use Rattle.utf8.specs.Answer.{code_of_lead, used_of_lead}

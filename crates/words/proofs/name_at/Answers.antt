@@ -9,7 +9,7 @@ use Rattle.words.specs.Laws.{name_two, part_length}
 use Rattle.words.proofs.name_at.Goals as goal
 
 pub overflow_sub-result : goal.overflow_sub-result
-overflow_sub-result c = 
+overflow_sub-result c =
     let a = c.args in
     let h : is_name (take (a.stop - a.start) (drop a.start a.file.now)) ≡ true = sym c.is_name.ensures ∙ c.if-is_name.true in
     let k = name_two (take (a.stop - a.start) (drop a.start a.file.now)) h in
@@ -17,13 +17,13 @@ overflow_sub-result c =
     omega arith
 
 pub returns-then-is_name : goal.returns-then-is_name
-returns-then-is_name c = 
+returns-then-is_name c =
     let a = c.args in
     let h : is_name (take (a.stop - a.start) (drop a.start a.file.now)) ≡ true = sym c.is_name.ensures ∙ c.if-is_name.true in
     rw h refl
 
 pub returns : goal.returns
-returns c = 
+returns c =
     let a = c.args in
     let h : is_name (take (a.stop - a.start) (drop a.start a.file.now)) ≡ false = sym c.is_name.ensures ∙ c.if-is_name.false in
     rw h refl

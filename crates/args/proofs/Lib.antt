@@ -1,6 +1,0 @@
-pub mod Asked
-pub mod Both
-pub mod Carry
-pub mod Counted
-pub mod Forward
-pub mod Lent
