@@ -1,6 +1,6 @@
 use native.Mathlib.Omega.{arith}
 use mathlib.Core.Path.{sym, ◌∙◌, ap}
-use Prim.Native.Nat.{ℕ, ◌+◌}
+use Prim.Native.Nat.{ℕ}
 use lib.Ieee.{binary64, to_bits}
 use Rattle.params.specs.Answer.{Read}
 use Rattle.scalars.specs.Answer.{told_next_real, told_next_ref}

@@ -1,4 +1,3 @@
-use borrow.Author.Rules.{rules}
 use mathlib.Core.Path.{sym, ◌∙◌, ap}
 use Rattle.lookup.specs.Lookup.{row_for}
 use Rattle.statement.specs.Rows.{told_row}

@@ -1,4 +1,3 @@
-use borrow.Author.Rules.{rules}
 use mathlib.Core.Path.{sym, ◌∙◌, ap}
 use Rattle.params.specs.Answer.{told_skipped}
 use Rattle.scalars.specs.Answer.{told_next_ref}

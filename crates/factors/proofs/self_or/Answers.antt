@@ -1,4 +1,3 @@
-use borrow.Author.Rules.{rules}
 use mathlib.Core.Path.{sym, ◌∙◌, ap}
 use lib.Dec.{eqb}
 use Rattle.kinds.specs.Rules.{rank_of}

@@ -1,6 +1,4 @@
-use borrow.Author.Rules.{rules}
 use mathlib.Core.Path.{sym, ◌∙◌, ap}
-use borrow.Author.Tests.{not-true, not-false}
 use Rattle.prefixes.specs.Prefix.{factor_of}
 use Rattle.factors.specs.Laws.{angle_other, angle_is}
 use Rattle.factors.proofs.si_angle.Goals as goal

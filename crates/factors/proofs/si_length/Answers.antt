@@ -1,6 +1,4 @@
-use borrow.Author.Rules.{rules}
 use mathlib.Core.Path.{sym, ◌∙◌, ap}
-use borrow.Author.Tests.{not-true, not-false}
 use Rattle.prefixes.specs.Length.{length_factor_of}
 use Rattle.factors.specs.Laws.{length_other, length_is}
 use Rattle.factors.proofs.si_length.Goals as goal

@@ -1,6 +1,4 @@
-use borrow.Author.Rules.{rules}
 use mathlib.Core.Path.{sym, ◌∙◌, ap}
-use Prim.Native.Nat.{◌-◌}
 use lib.ListN.{length}
 use Rattle.lookup.specs.Lookup.{told_entry, args_by}
 use Rattle.lookup.proofs.args.Goals as goal

@@ -1,6 +1,5 @@
-use mathlib.Core.Path.{◌≡◌, refl, sym, ◌∙◌, ap}
+use mathlib.Core.Path.{sym, ◌∙◌, ap}
 use Prim.Native.Nat.{ℕ, ◌-◌}
-use borrow.Author.Rules.{rules}
 use lib.Dec.{eqb}
 use Rattle.kinds.specs.Rules.{rank_of}
 use Rattle.kinds.specs.declared.Kind.{Kind}

@@ -1,12 +1,7 @@
-use mathlib.Core.Path.{◌≡◌, refl, sym, ◌∙◌, ap}
-use Prim.Native.Nat.{ℕ, ◌-◌}
-use borrow.Author.Rules.{rules}
-use lib.Dec.{eqb}
-use Rattle.kinds.specs.Rules.{rank_of}
-use Rattle.kinds.specs.declared.Kind.{Kind}
+use mathlib.Core.Path.{◌≡◌}
+use Prim.Native.Nat.{◌-◌}
 use Rattle.lookup.specs.First.{first_from}
-use Rattle.lookup.specs.Lookup.{row_is_kind, kind_in}
-use Rattle.lookup.specs.Laws.{first_stops, first_goes, first_ends}
+use Rattle.lookup.specs.Lookup.{row_is_kind}
 use Rattle.lookup.proofs.by_kind.Given as goal
 
 abbrev pub invariant-loop-i : goal.invariant-loop-i

@@ -1,7 +1,5 @@
-use borrow.Author.Rules.{rules}
 use mathlib.Core.Path.{sym, ◌∙◌, ap}
 use mathlib.Core.Option.{some}
-use Prim.Native.Nat.{◌-◌}
 use Rattle.index.specs.Answer.{told_found_row}
 use Rattle.table.specs.Table.{row_numbers}
 use Rattle.lookup.specs.Lookup.{row_found}

@@ -1,6 +1,4 @@
-use borrow.Author.Rules.{rules}
 use mathlib.Core.Path.{sym, ◌∙◌, ap}
-use Prim.Native.Nat.{◌-◌}
 use Rattle.lookup.specs.Lookup.{told_entry, kind_found}
 use Rattle.lookup.proofs.kind_of.Goals as goal
 

@@ -1,6 +1,4 @@
-use borrow.Author.Rules.{rules}
 use mathlib.Core.Path.{sym, ◌∙◌, ap}
-use Prim.Native.Nat.{◌-◌}
 use Rattle.lookup.specs.Lookup.{told_entry, required}
 use Rattle.lookup.proofs.require.Goals as goal
 

@@ -1,6 +1,4 @@
-use borrow.Author.Rules.{rules}
 use mathlib.Core.Path.{refl, sym, ◌∙◌}
-use Prim.Native.Nat.{◌-◌}
 use Rattle.lookup.proofs.span_in.Goals as goal
 
 pub returns-then-fits : goal.returns-then-fits

@@ -1,7 +1,6 @@
 use mathlib.Core.Path.{◌∙◌, sym, ap}
 use Rattle.scan.specs.ScanMemory.{told_scan}
 use Rattle.needs.specs.Laws.{needs_refused, needs_read, refused_number, good_not_bad}
-use borrow.Author.Rules.{rules}
 use Rattle.needs.proofs.count.Goals as goal
 
 pub returns-in_default : goal.returns-in_default

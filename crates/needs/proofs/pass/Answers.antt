@@ -1,10 +1,7 @@
-use borrow.Author.Rules.{rules}
-use Prim.Native.Nat.{◌-◌}
 use native.Mathlib.Omega.{arith}
 use mathlib.Core.Path.{◌∙◌, sym, ap}
-use lib.ListN.{length}
 use Rattle.statement.specs.Answer.{told_said}
-use Rattle.needs.specs.Laws.{Counting, counting_starts, counting_ends, counting_refused, counting_moves, counting_header, counting_record}
+use Rattle.needs.specs.Laws.{counting_starts, counting_ends, counting_refused, counting_moves, counting_header, counting_record}
 use Rattle.needs.proofs.pass.Goals as goal
 
 pub loop-f-init : goal.loop-f-init

@@ -1,6 +1,5 @@
 use mathlib.Core.Path.{◌∙◌, ap}
 use Rattle.argument_sizes.specs.Rules.{greater_sizes}
-use borrow.Author.Rules.{rules}
 use Rattle.needs.proofs.with_record.Goals as goal
 
 pub returns : goal.returns

@@ -4,7 +4,6 @@ use Rattle.scalars.specs.Scalars.{unopening}
 use mathlib.Core.Path.{◌≡◌}
 use lib.ListN.{length, drop}
 use Prim.Native.Nat.{◌-◌, ◌≤◌}
-use mathlib.Core.List.{[]}
 use Rattle.scalars.proofs.first_open.Given as goal
 
 abbrev pub invariant-loop-i : goal.invariant-loop-i

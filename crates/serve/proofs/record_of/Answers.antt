@@ -1,4 +1,3 @@
-use borrow.Author.Rules.{rules}
 use mathlib.Core.Path.{sym, ◌∙◌, ap}
 use Rattle.lookup.specs.Lookup.{told_entry}
 use Rattle.serve.specs.Serve.{record_in}

@@ -1,4 +1,3 @@
-use borrow.Author.Rules.{rules}
 use Rattle.units.specs.Answer.{told_units}
 use Rattle.serve.specs.Serve.{units_of}
 use Rattle.serve.specs.Laws.{promised, refused_out, units_out}

@@ -1,4 +1,3 @@
-use borrow.Author.Rules.{rules}
 use mathlib.Core.Path.{sym, ◌∙◌, ap}
 use Rattle.error.specs.Refusal.{good}
 use Rattle.lookup.specs.Lookup.{row_for}

@@ -1,4 +1,3 @@
-use borrow.Author.Rules.{rules}
 use mathlib.Core.Path.{sym, ◌∙◌, ap}
 use Rattle.statement.specs.Rows.{told_row}
 use Rattle.scalars.specs.Answer.{told_next_whole}

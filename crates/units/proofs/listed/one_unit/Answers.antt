@@ -1,4 +1,3 @@
-use borrow.Author.Rules.{rules}
 use mathlib.Core.Path.{sym, ◌∙◌, ap}
 use Rattle.statement.specs.Rows.{told_row}
 use Rattle.lookup.specs.Lookup.{told_entry, row_for}

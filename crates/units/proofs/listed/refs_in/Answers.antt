@@ -1,4 +1,3 @@
-use borrow.Author.Rules.{rules}
 use mathlib.Core.Path.{sym, ◌∙◌, ap, subst}
 use Rattle.params.specs.Answer.{onward}
 use Rattle.factors.specs.Answer.{told_arguments}

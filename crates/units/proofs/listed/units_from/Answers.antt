@@ -1,8 +1,6 @@
-use borrow.Author.Rules.{rules}
 use native.Mathlib.Omega.{arith}
-use Prim.Native.Nat.{ℕ, ◌-◌}
+use Prim.Native.Nat.{ℕ}
 use mathlib.Core.Path.{sym, ◌∙◌, ap}
-use lib.ListN.{length}
 use Rattle.reals.specs.Answer.{Answer, told_reference}
 use Rattle.lists.specs.Answer.{as_fate}
 use Rattle.lookup.specs.Lookup.{row_for}
@@ -10,7 +8,7 @@ use Rattle.factors.specs.SeenRecords.{find_of}
 use Rattle.units.specs.Answer.{Units, defaults, values_in, told_units}
 use Rattle.units.specs.Units.{units_by}
 use Rattle.units.specs.Code.{ids_of}
-use Rattle.units.specs.Laws.{RefsReading, refs_reading_starts, refs_reading_bad, refs_reading_here, refs_reading_last, refs_reading_goes, units_bad, units_more, units_last}
+use Rattle.units.specs.Laws.{refs_reading_starts, refs_reading_bad, refs_reading_here, refs_reading_last, refs_reading_goes, units_bad, units_more, units_last}
 use Rattle.units.proofs.listed.units_from.Goals as goal
 
 pub loop-id-init : goal.loop-id-init

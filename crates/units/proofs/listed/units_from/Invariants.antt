@@ -1,16 +1,11 @@
-use borrow.Author.Rules.{rules}
-use native.Mathlib.Omega.{arith}
-use Prim.Native.Nat.{ℕ, ◌-◌}
-use mathlib.Core.Path.{sym, ◌∙◌, ap}
+use Prim.Native.Nat.{◌-◌}
 use lib.ListN.{length}
-use Rattle.reals.specs.Answer.{Answer, told_reference}
-use Rattle.lists.specs.Answer.{as_fate}
 use Rattle.lookup.specs.Lookup.{row_for}
 use Rattle.factors.specs.SeenRecords.{find_of}
-use Rattle.units.specs.Answer.{Units, defaults, values_in, told_units}
+use Rattle.units.specs.Answer.{defaults, values_in}
 use Rattle.units.specs.Units.{units_by}
 use Rattle.units.specs.Code.{ids_of}
-use Rattle.units.specs.Laws.{RefsReading, refs_reading_starts, refs_reading_bad, refs_reading_here, refs_reading_last, refs_reading_goes, units_bad, units_more, units_last}
+use Rattle.units.specs.Laws.{RefsReading}
 use Rattle.units.proofs.listed.units_from.Given as goal
 
 abbrev pub invariant-loop-id : goal.invariant-loop-id

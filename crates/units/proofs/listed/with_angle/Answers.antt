@@ -1,4 +1,3 @@
-use borrow.Author.Rules.{rules}
 use mathlib.Core.Path.{sym, ap}
 use Rattle.factors.specs.SeenRecords.{good_by}
 use Rattle.factors.specs.Answer.{told_factor}

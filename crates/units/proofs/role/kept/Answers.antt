@@ -1,4 +1,3 @@
-use borrow.Author.Rules.{rules}
 use mathlib.Core.Path.{sym, ap}
 use Rattle.units.specs.Code.{kept_role}
 use Rattle.units.specs.declared.role.UnitRole.{UnitRole}

@@ -1,4 +1,3 @@
-use borrow.Author.Rules.{rules}
 use mathlib.Core.Path.{sym, refl, ◌∙◌}
 use Rattle.units.proofs.role.role_by.Goals as goal
 
