@@ -168,7 +168,8 @@ def main():
         open(at('table'), 'w').write(''.join(f'{a}\t{b}\n' for a, b in sorted(rows.items())))
         open(at('steps'), 'w').write('\n'.join(STEPS) + '\n')
         ran = subprocess.run([sys.executable, SNAKE, '--table', at('table'), '--only', 'antt,rt,md', '--keep-after-dot', at('steps'),
-                              'crates', 'README.md', 'CONTRIBUTING.md', 'docs', 'differential', 'bench'], capture_output=True, text=True)
+                              *[p for p in ('crates', 'README.md', 'CONTRIBUTING.md', 'docs', 'differential', 'bench') if os.path.exists(p)]],
+                             capture_output=True, text=True)
         print(ran.stdout, ran.stderr)
         subprocess.run([sys.executable, SNAKE, '--table', at('table'), '--only', 'text', 'tools/believe.txt'], check=False)
     edits(rows)
