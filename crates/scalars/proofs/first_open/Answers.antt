@@ -1,3 +1,4 @@
+use mathlib.Core.List.{[]}
 use Rattle.common.specs.Lists.{drop_end}
 use Rattle.record.specs.Text.{past, past_turn}
 use Rattle.record.specs.Turns.{past_stops, past_goes}

@@ -1,3 +1,4 @@
+use mathlib.Core.List.{[]}
 use Rattle.record.specs.Text.{past, past_turn}
 use Rattle.common.specs.Walk.{walk}
 use Rattle.scalars.specs.Scalars.{unopening}
