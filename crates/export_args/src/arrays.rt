@@ -11,8 +11,7 @@ use params::State;
 use reals::Reals;
 
 // Reads a list of references into `out`: 0, with how many in `count`.
-#[unsafe(no_mangle)]
-pub extern "C" fn hooflift_ref_list(
+pub fn hooflift_ref_list(
     file: &[u8],
     place: &mut usize,
     end: usize,
@@ -29,8 +28,7 @@ pub extern "C" fn hooflift_ref_list(
 }
 
 // Reads a list of integers into `out`: 0, with how many in `count`.
-#[unsafe(no_mangle)]
-pub extern "C" fn hooflift_i64_list(
+pub fn hooflift_i64_list(
     file: &[u8],
     place: &mut usize,
     end: usize,
@@ -71,8 +69,7 @@ fn put_grid(
 
 // Reads a list of lists of references: 0, with all its numbers in `out` and how many in `count`, and where each row ends in `ends` and how many
 // rows in `rows`.
-#[unsafe(no_mangle)]
-pub extern "C" fn hooflift_ref_grid(
+pub fn hooflift_ref_grid(
     file: &[u8],
     place: &mut usize,
     end: usize,
@@ -95,8 +92,7 @@ pub extern "C" fn hooflift_ref_grid(
 
 // Reads a list of lists of reals: 0, with all its numbers in `out` and how many in `count`, and where each row ends in `ends` and how many
 // rows in `rows`.
-#[unsafe(no_mangle)]
-pub extern "C" fn hooflift_f64_grid(
+pub fn hooflift_f64_grid(
     file: &[u8],
     place: &mut usize,
     end: usize,
@@ -118,8 +114,7 @@ pub extern "C" fn hooflift_f64_grid(
 }
 
 // Reads a list of lists of any reals: as `hooflift_f64_grid`, and never 13.
-#[unsafe(no_mangle)]
-pub extern "C" fn hooflift_any_f64_grid(
+pub fn hooflift_any_f64_grid(
     file: &[u8],
     place: &mut usize,
     end: usize,

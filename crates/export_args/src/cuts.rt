@@ -8,8 +8,7 @@ ghost use Rattle.host_numbers.specs.Answers.{HostReaderTold, Puts, read_code, tr
 use params::{Emptiness, NextParam, OpenedReader, State};
 
 // Whether a reader from `place` up to `end` lies in the file: 0, or 9.
-#[unsafe(no_mangle)]
-pub extern "C" fn hooflift_new(file: &[u8], place: usize, end: usize) -> u8
+pub fn hooflift_new(file: &[u8], place: usize, end: usize) -> u8
     ensures { result ≡ read_code (opened_of file.now place end) }
 {
     match params::new(file, place, end) {
@@ -19,8 +18,7 @@ pub extern "C" fn hooflift_new(file: &[u8], place: usize, end: usize) -> u8
 }
 
 // The next parameter unread: 0, with where it begins and ends in the file.
-#[unsafe(no_mangle)]
-pub extern "C" fn hooflift_param(
+pub fn hooflift_param(
     file: &[u8],
     place: &mut usize,
     end: usize,
@@ -45,8 +43,7 @@ pub extern "C" fn hooflift_param(
 }
 
 // Whether no parameter is left: 0, with 1 or 0 in `empty`. The reader goes past the trivia.
-#[unsafe(no_mangle)]
-pub extern "C" fn hooflift_is_empty(
+pub fn hooflift_is_empty(
     file: &[u8],
     place: &mut usize,
     end: usize,
@@ -68,8 +65,7 @@ pub extern "C" fn hooflift_is_empty(
 }
 
 // Goes past `count` parameters, up to the first refusal.
-#[unsafe(no_mangle)]
-pub extern "C" fn hooflift_skip_n(
+pub fn hooflift_skip_n(
     file: &[u8],
     place: &mut usize,
     end: usize,

@@ -10,8 +10,7 @@ use params::State;
 use words::{NextName, NextText};
 
 // The next parameter as a name between two dots: 0, with where the name begins and ends in the file, without its dots.
-#[unsafe(no_mangle)]
-pub extern "C" fn hooflift_enum(
+pub fn hooflift_enum(
     file: &[u8],
     place: &mut usize,
     end: usize,
@@ -36,8 +35,7 @@ pub extern "C" fn hooflift_enum(
 }
 
 // The next parameter as a text: 0, with where it begins and ends, in the file where `room` is then 0 and in `out` where it is 1.
-#[unsafe(no_mangle)]
-pub extern "C" fn hooflift_str(
+pub fn hooflift_str(
     file: &[u8],
     place: &mut usize,
     end: usize,

@@ -14,8 +14,7 @@ use reals::Reals;
 use scalars::{NextOptReal, NextOptRef, NextReal, NextRef, NextTruth, NextWhole};
 
 // The next parameter as a reference: 0, with its id in `value`.
-#[unsafe(no_mangle)]
-pub extern "C" fn hooflift_ref(
+pub fn hooflift_ref(
     file: &[u8],
     place: &mut usize,
     end: usize,
@@ -37,8 +36,7 @@ pub extern "C" fn hooflift_ref(
 }
 
 // The next parameter as a reference or `$`: 0, with 1 in `set` and its id in `value`, or with 0 in `set`.
-#[unsafe(no_mangle)]
-pub extern "C" fn hooflift_opt_ref(
+pub fn hooflift_opt_ref(
     file: &[u8],
     place: &mut usize,
     end: usize,
@@ -68,8 +66,7 @@ pub extern "C" fn hooflift_opt_ref(
 }
 
 // The next parameter as an integer: 0, with it in `value`.
-#[unsafe(no_mangle)]
-pub extern "C" fn hooflift_i64(
+pub fn hooflift_i64(
     file: &[u8],
     place: &mut usize,
     end: usize,
@@ -106,8 +103,7 @@ fn put_real(r: NextReal, place: &mut usize, value: &mut f64, fault: &mut usize) 
 }
 
 // The next parameter as a real: 0, with its f64 in `value`.
-#[unsafe(no_mangle)]
-pub extern "C" fn hooflift_f64(
+pub fn hooflift_f64(
     file: &[u8],
     place: &mut usize,
     end: usize,
@@ -122,8 +118,7 @@ pub extern "C" fn hooflift_f64(
 }
 
 // The next parameter as any real, whatever its digits and its exponent: as `hooflift_f64`, and never 13.
-#[unsafe(no_mangle)]
-pub extern "C" fn hooflift_any_f64(
+pub fn hooflift_any_f64(
     file: &[u8],
     place: &mut usize,
     end: usize,
@@ -174,8 +169,7 @@ fn put_opt_real(
 }
 
 // The next parameter as a real or `$`: 0, with 1 in `set` and its f64 in `value`, or with 0 in `set`.
-#[unsafe(no_mangle)]
-pub extern "C" fn hooflift_opt_f64(
+pub fn hooflift_opt_f64(
     file: &[u8],
     place: &mut usize,
     end: usize,
@@ -191,8 +185,7 @@ pub extern "C" fn hooflift_opt_f64(
 }
 
 // The next parameter as any real or `$`: as `hooflift_opt_f64`, and never 13.
-#[unsafe(no_mangle)]
-pub extern "C" fn hooflift_any_opt_f64(
+pub fn hooflift_any_opt_f64(
     file: &[u8],
     place: &mut usize,
     end: usize,
@@ -208,8 +201,7 @@ pub extern "C" fn hooflift_any_opt_f64(
 }
 
 // The next parameter as a measure, a real or `KEYWORD(real)`: 0, with its f64 in `value`.
-#[unsafe(no_mangle)]
-pub extern "C" fn hooflift_measure(
+pub fn hooflift_measure(
     file: &[u8],
     place: &mut usize,
     end: usize,
@@ -224,8 +216,7 @@ pub extern "C" fn hooflift_measure(
 }
 
 // The next parameter as a measure with any real: as `hooflift_measure`, and never 13.
-#[unsafe(no_mangle)]
-pub extern "C" fn hooflift_any_measure(
+pub fn hooflift_any_measure(
     file: &[u8],
     place: &mut usize,
     end: usize,
@@ -245,8 +236,7 @@ pub extern "C" fn hooflift_any_measure(
 }
 
 // The next parameter as a boolean: 0, with 0 in `value` for `.F.`, 1 for `.T.` and 2 for `.U.`.
-#[unsafe(no_mangle)]
-pub extern "C" fn hooflift_bool(
+pub fn hooflift_bool(
     file: &[u8],
     place: &mut usize,
     end: usize,

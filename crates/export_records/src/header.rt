@@ -10,8 +10,7 @@ use headers::HeaderFound;
 use lookup::RowOrNone;
 
 // The first header record with this keyword, letters in either case: 0, with its row's number; 255 where there is none.
-#[unsafe(no_mangle)]
-pub extern "C" fn hooflift_header_row(
+pub fn hooflift_header_row(
     file: &[u8],
     headers: &[u32],
     tables: &[u64],
@@ -31,8 +30,7 @@ pub extern "C" fn hooflift_header_row(
 }
 
 // Where the arguments of the first header record with this keyword stand: 0, 9, or 255 where there is none.
-#[unsafe(no_mangle)]
-pub extern "C" fn hooflift_header_args(
+pub fn hooflift_header_args(
     file: &[u8],
     headers: &[u32],
     tables: &[u64],
@@ -81,8 +79,7 @@ fn put_title(t: Title, room: &mut u8, start: &mut usize, stop: &mut usize, fault
 
 // The file's name, the first parameter of FILE_NAME: 0, with where it begins and ends, in the file where `room` is then 0 and in `out` where
 // it is 1; empty where there is none.
-#[unsafe(no_mangle)]
-pub extern "C" fn hooflift_file_name(
+pub fn hooflift_file_name(
     file: &[u8],
     headers: &[u32],
     tables: &[u64],
@@ -104,8 +101,7 @@ pub extern "C" fn hooflift_file_name(
 
 // The system that wrote the file, the sixth parameter of FILE_NAME: 0, with where it begins and ends, in the file where `room` is then 0 and in `out` where
 // it is 1; empty where there is none.
-#[unsafe(no_mangle)]
-pub extern "C" fn hooflift_originating_system(
+pub fn hooflift_originating_system(
     file: &[u8],
     headers: &[u32],
     tables: &[u64],

@@ -21,8 +21,7 @@ fn put_kept(r: KeptCount, count: &mut usize) -> u8
 }
 
 // Writes the first `count` rows of a file of `len` bytes, 24 bytes a row: 0, with how many in `kept`; or 9 or 16.
-#[unsafe(no_mangle)]
-pub extern "C" fn hooflift_keep_rows(
+pub fn hooflift_keep_rows(
     len: usize,
     rows: &[u32],
     count: usize,
@@ -37,13 +36,7 @@ pub extern "C" fn hooflift_keep_rows(
 }
 
 // Reads rows that were kept beside a file of `len` bytes: 0, with how many in `count`; or 9 or 16.
-#[unsafe(no_mangle)]
-pub extern "C" fn hooflift_read_rows(
-    len: usize,
-    bytes: &[u8],
-    rows: &mut [u32],
-    count: &mut usize,
-) -> u8
+pub fn hooflift_read_rows(len: usize, bytes: &[u8], rows: &mut [u32], count: &mut usize) -> u8
     ensures value { result ≡ read_code (read_of len bytes.now (rows_fit (length rows.old))) }
     ensures rows_after { rows.new ≡ read_after bytes.now (read_of len bytes.now (rows_fit (length rows.old))) rows.old }
     ensures puts { Puts (λ n. n) (read_of len bytes.now (rows_fit (length rows.old))) count }

@@ -23,8 +23,7 @@ fn put_next(r: Next, part: &mut [u64], fault: &mut usize) -> u8
 
 // The next part of a complex record from the place `at` on, whose arguments end at `end`: 0, with where its keyword and its arguments stand
 // in `part`; 255 where there is none.
-#[unsafe(no_mangle)]
-pub extern "C" fn hooflift_next_part(
+pub fn hooflift_next_part(
     file: &[u8],
     at: usize,
     end: usize,
@@ -39,8 +38,7 @@ pub extern "C" fn hooflift_next_part(
 }
 
 // The first part of a kind of the record whose arguments run from `start` up to `end` and whose mark is `complex`.
-#[unsafe(no_mangle)]
-pub extern "C" fn hooflift_complex_part(
+pub fn hooflift_complex_part(
     file: &[u8],
     start: usize,
     end: usize,

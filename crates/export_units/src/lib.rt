@@ -37,8 +37,7 @@ fn put_units(
 }
 
 // The file's units: 0, with mm for a unit of length, rad for a unit of angle, the tolerance, and 1 in `resolved` where a context says so.
-#[unsafe(no_mangle)]
-pub extern "C" fn hooflift_units(
+pub fn hooflift_units(
     file: &[u8],
     rows: &[u32],
     slots: &[u64],
@@ -60,8 +59,7 @@ pub extern "C" fn hooflift_units(
 }
 
 // The units that the context in row k gives: as `hooflift_units`; 255 past the table.
-#[unsafe(no_mangle)]
-pub extern "C" fn hooflift_units_of_context(
+pub fn hooflift_units_of_context(
     file: &[u8],
     rows: &[u32],
     slots: &[u64],

@@ -1,0 +1,7 @@
+// The functions of `export_records`, for hosts in C: the library answers each call, and each clause is its own. A static library exports the
+// functions of its own files alone, and no crate is built on one.
+#![tactic(auto)]
+
+mod header;
+mod keeping;
+mod pieces;
