@@ -12,14 +12,7 @@ ghost use Rattle.export_tables.specs.Tables.{host_record};
 use lookup::Required;
 
 // The last record with this id: 0, with its six numbers in `row`; or 14.
-#[unsafe(no_mangle)]
-pub extern "C" fn hooflift_require(
-    rows: &[u32],
-    slots: &[u64],
-    tables: &[u64],
-    id: u32,
-    row: &mut [u64],
-) -> u8
+pub fn hooflift_require(rows: &[u32], slots: &[u64], tables: &[u64], id: u32, row: &mut [u64]) -> u8
     ensures value { result ≡ out_code row_width (length row.old) (mapped some (required (host_record rows.now slots.now tables.now id))) }
     ensures row_after { row.new ≡ out_after row_width six (mapped some (required (host_record rows.now slots.now tables.now id))) row.old }
 {
@@ -30,8 +23,7 @@ pub extern "C" fn hooflift_require(
 }
 
 // Where the arguments of the last record with this id stand: 0, 9, or 14.
-#[unsafe(no_mangle)]
-pub extern "C" fn hooflift_args(
+pub fn hooflift_args(
     file: &[u8],
     rows: &[u32],
     slots: &[u64],
@@ -52,14 +44,7 @@ pub extern "C" fn hooflift_args(
 }
 
 // The number of the kind of the last record with this id; that of `Other` where there is none.
-#[unsafe(no_mangle)]
-pub extern "C" fn hooflift_kind_of(
-    file: &[u8],
-    rows: &[u32],
-    slots: &[u64],
-    tables: &[u64],
-    id: u32,
-) -> u32
+pub fn hooflift_kind_of(file: &[u8], rows: &[u32], slots: &[u64], tables: &[u64], id: u32) -> u32
     ensures { result ≡ rank_of (kind_found file.now (host_record rows.now slots.now tables.now id)) }
 {
     host_numbers::kind_number(lookup::kind_of(

@@ -12,16 +12,14 @@ ghost use Rattle.export_tables.specs.Tables.{host_row, next_of_kind, key_span, a
 use lookup::{Entry, RowOrNone};
 
 // How many records there are.
-#[unsafe(no_mangle)]
-pub extern "C" fn hooflift_len(tables: &[u64]) -> usize
+pub fn hooflift_len(tables: &[u64]) -> usize
     ensures { result ≡ (tables_by tables.now).records }
 {
     lookup::len(host_numbers::tables_of(tables))
 }
 
 // Row k in file order: 0, with its six numbers in `row`; 255 past the table.
-#[unsafe(no_mangle)]
-pub extern "C" fn hooflift_entity(rows: &[u32], tables: &[u64], k: usize, row: &mut [u64]) -> u8
+pub fn hooflift_entity(rows: &[u32], tables: &[u64], k: usize, row: &mut [u64]) -> u8
     ensures value { result ≡ out_code row_width (length row.old) (good (host_row rows.now tables.now k)) }
     ensures row_after { row.new ≡ out_after row_width six (good (host_row rows.now tables.now k)) row.old }
 {
@@ -32,8 +30,7 @@ pub extern "C" fn hooflift_entity(rows: &[u32], tables: &[u64], k: usize, row: &
 }
 
 // Where row k's keyword stands: 0, 9, or 255 past the table.
-#[unsafe(no_mangle)]
-pub extern "C" fn hooflift_keyword(
+pub fn hooflift_keyword(
     file: &[u8],
     rows: &[u32],
     tables: &[u64],
@@ -52,8 +49,7 @@ pub extern "C" fn hooflift_keyword(
 }
 
 // Where row k's arguments stand: 0, 9, or 255 past the table.
-#[unsafe(no_mangle)]
-pub extern "C" fn hooflift_args_of(
+pub fn hooflift_args_of(
     file: &[u8],
     rows: &[u32],
     tables: &[u64],
@@ -72,8 +68,7 @@ pub extern "C" fn hooflift_args_of(
 }
 
 // The number of row k's kind; that of `Other` past the table.
-#[unsafe(no_mangle)]
-pub extern "C" fn hooflift_kind(file: &[u8], rows: &[u32], tables: &[u64], k: usize) -> u32
+pub fn hooflift_kind(file: &[u8], rows: &[u32], tables: &[u64], k: usize) -> u32
     ensures { result ≡ rank_of (kind_found file.now (host_row rows.now tables.now k)) }
 {
     match lookup::entity(rows, host_numbers::tables_of(tables), k) {
@@ -83,16 +78,14 @@ pub extern "C" fn hooflift_kind(file: &[u8], rows: &[u32], tables: &[u64], k: us
 }
 
 // The number of a keyword's kind.
-#[unsafe(no_mangle)]
-pub extern "C" fn hooflift_intern(keyword: &[u8]) -> u32
+pub fn hooflift_intern(keyword: &[u8]) -> u32
     ensures { result ≡ rank_of (kind_of_keyword keyword.now) }
 {
     host_numbers::kind_number(kinds::intern(keyword))
 }
 
 // The next row of a kind from row `from` on, in file order: 0, with its number in `row`; 255 where there is none.
-#[unsafe(no_mangle)]
-pub extern "C" fn hooflift_by_kind(
+pub fn hooflift_by_kind(
     file: &[u8],
     rows: &[u32],
     tables: &[u64],

@@ -24,13 +24,7 @@ fn put_needs(out: &mut [u64], n: Needs)
 // Tells what a file needs: 0, with how many header rows, how many data rows, which is how many id slots, the largest id, the most numbers of a
 // list or a grid, the longest text and the most rows of a grid in the first of the lent numbers; or the refusal's number, with its
 // reason and place; or 16 where fewer than `ROOM` are lent, before anything is read.
-#[unsafe(no_mangle)]
-pub extern "C" fn hooflift_needs(
-    file: &[u8],
-    needs: &mut [u64],
-    reason: &mut u8,
-    fault: &mut usize,
-) -> u8
+pub fn hooflift_needs(file: &[u8], needs: &mut [u64], reason: &mut u8, fault: &mut usize) -> u8
     ensures { Needing file.now needs.old reason.old fault.old result needs.new reason.new fault.new }
 {
     if needs.len() < ROOM {

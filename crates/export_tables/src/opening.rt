@@ -5,8 +5,7 @@ use store::OpenedFile;
 
 // Scans a file into lent rows and indexes its ids in the lent slots, one a record: 0, with what goes with the tables in sixteen numbers; or
 // the refusal's number, with its reason and place; or 16 where `tables` has no room for sixteen.
-#[unsafe(no_mangle)]
-pub extern "C" fn hooflift_open(
+pub fn hooflift_open(
     file: &[u8],
     headers: &mut [u32],
     rows: &mut [u32],

@@ -1,0 +1,8 @@
+// The functions of `export_tables`, for hosts in C: the library answers each call, and each clause is its own. A static library exports the
+// functions of its own files alone, and no crate is built on one.
+#![tactic(auto)]
+
+mod by_id;
+mod by_row;
+mod needing;
+mod opening;
