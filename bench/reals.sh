@@ -4,19 +4,14 @@
 #   reals.sh [WORK_FOLDER]
 #
 # WORK_FOLDER is kept, so that a second run proves only what changed (default: a folder under the system's temp folder).
+# Environment: OBJECT, as for run.sh.
 set -eu
 here=$(CDPATH='' cd -- "$(dirname -- "$0")" && pwd)
-shared=$here/../../shared
 work=${1:-${TMPDIR:-$(dirname "$(mktemp -u)")}/hooflift-bench}
-mkdir -p "$work/copy"
+mkdir -p "$work"
 work=$(CDPATH='' cd -- "$work" && pwd)
-
-echo "reals.sh: proving the library export (some minutes the first time)" >&2
-rm -rf "$work/copy"
-mkdir "$work/copy"
-cp "$here/../crates.txt" "$work/copy/"
-cp -R "$here/../crates" "$work/copy/crates"
-sh "$shared/perf/native.sh" -w "$work/native" -o "$work/reals" "$work/copy" export "$here/reals.rs" >&2
+object=$(sh "$here/object.sh" "$work")
+rustc --edition 2021 -C opt-level=3 -C codegen-units=1 -C link-arg="$object" -o "$work/reals" "$here/reals.rs" >&2
 
 echo "$(date -u +%Y-%m-%d), $(uname -m), $(sed -n 's/^model name[^:]*: //p' /proc/cpuinfo | head -n 1), $(rustc --version | cut -d' ' -f1-2)"
 echo

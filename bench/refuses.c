@@ -1,4 +1,4 @@
-/* The least host of the library, for native.sh: an empty file is refused with 1, whatever is lent. */
+/* The least host of the library, for object.sh: an empty file is refused with 1, whatever is lent. */
 #include <stddef.h>
 #include <stdint.h>
 

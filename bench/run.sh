@@ -7,7 +7,7 @@
 # Environment:
 #   REAL      folder of real files (default: WORK_FOLDER/real, fetched by ../shared/real.sh if empty)
 #   ORIGINAL  folder of the original's scan.rs, as for ../differential/build.sh
-#   OBJECT    object file of the proved library, already built by native.sh (default: proved and built here)
+#   OBJECT    the proved library, a static library or its object file, where it is built already (default: proved and built by object.sh)
 #   COUNTED   a small file whose instructions are counted, where valgrind is there (default: the smallest real file
 #             above 50 KB; `none` leaves the count out)
 set -eu
@@ -26,7 +26,7 @@ if [ -z "$(ls -A "$real")" ]; then
 fi
 [ -n "$(ls -A "$real")" ] || { say "no real files in $real"; exit 1; }
 
-# The proved library, from a copy of the crates.
+# The proved library.
 object=$(sh "$here/object.sh" "$work")
 
 # The original, and the program with both.

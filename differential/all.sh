@@ -6,8 +6,8 @@
 # WORK_FOLDER is kept (default: a folder under the system's temp folder). What is wanted is installed from Debian where it is lacking, but
 # for cargo and rustc, 1.88 or newer, which Debian has not.
 # Environment:
-#   ANSWERS, ASKS  the two programs (default: those of target/bin, or on another processor than x86-64 built by ../shared/perf/native.sh; proved and
-#                  built first where they are not there)
+#   ANSWERS, ASKS  the two programs (default: those of target/bin, which ./step proves and builds first where they are not there or are older
+#                  than their sources; x86-64 code)
 #   STREAMS        which streams run (default: exhaustive grammar long damaged found chosen parameters lookups units unitrules real)
 #   EXHAUSTIVE     most cases of `exhaustive` (default: all, 5,668,110)
 #   GRAMMAR, LONG, DAMAGED  cases of these three (default 3700000, 300000 and 1300000)
@@ -37,16 +37,10 @@ ORACLE=${ORACLE:-}
 [ -n "$ORACLE" ] || ORACLE=$("$here/build.sh" "$work/oracle")
 MANY=${MANY:-}
 [ -n "$MANY" ] || MANY=$("$here/many.sh" "$work/many")
-# A program is compiled for x86-64. Elsewhere it would run under an emulator: there its module is built for this machine, and the gate's
-# replays are what compares the x86-64 build.
+# ./step proves and builds a program where need be, and here gives it no case.
 program() { # program NAME
-    if [ "$(uname -m)" = x86_64 ]; then
-        [ -x "$root/target/bin/$1" ] || (cd "$root" && rt check "$1") >&2
-        echo "$root/target/bin/$1"
-        return
-    fi
-    [ -x "$work/$1" ] || sh "$root/../shared/perf/native.sh" -w "$work/native" -o "$work/$1" "$root" "$1" >&2
-    echo "$work/$1"
+    "$root/step" "$1" </dev/null >&2
+    echo "$root/target/bin/$1"
 }
 ANSWERS=${ANSWERS:-$(program answers)}
 ASKS=${ASKS:-$(program asks)}
