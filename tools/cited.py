@@ -10,7 +10,7 @@ ROOT/crates (default: this tree). Looked at is what stands in backticks:
   Module.name: a module of a crate that is named before, and a name in it; `Module`: `name`, `name` likewise, and `name` in `crates/..`
   name: after a path, with commas alone between, a name of its crate. Farther from one, where it has a capital, a hyphen or an underscore, a name
     of a crate that the row or the paragraph names; where no path stands before it, of any crate. Other words are not looked at
-  target/bin/NAME, ./step NAME, rt check NAME, and what follows the words crate and program: a program, a crate
+  target/bin/NAME, ./step NAME, rt check NAME and its like, and what follows the words crate and program: a program, a crate
 
 A row of a table that names no crate goes by the rows above it, and a paragraph by those before it in its section. The first column of the
 table of crates in docs/DESIGN.md must have every crate once. Columns with the heading 'The Rust' speak of other code and are left out, as are
@@ -23,7 +23,7 @@ import sys
 
 ROOT = os.path.dirname(os.path.dirname(os.path.abspath(__file__)))
 # what stands before `::` and is no crate of ours: the Rust's, and the language's own
-FOREIGN = {'str', 'char', 'f64', 'hooflift', 'StepFile'}
+FOREIGN = {'std', 'str', 'char', 'f64', 'hooflift', 'StepFile'}
 # tasks of the program desk
 TASKS = {'list', 'scale', 'show', 'inspect'}
 # names that are not ours: of the Rust original, of what the kit generates, of files and packages; and names of ours that are said to be gone
@@ -124,7 +124,7 @@ class Check:
         for found in re.finditer(r'\./step ([a-z_]\w+)', line):
             if found[1] not in TASKS and not os.path.exists(os.path.join(self.code, 'crates', found[1], 'src', 'main.rt')):
                 self.say(place, '%s: no such program' % found[0])
-        for found in re.finditer(r'rt (?:check|staticlib|build) ([a-z_]\w+)', line):
+        for found in re.finditer(r'rt (?:ci|must-fail|check|verdict|lib|run|test|tidy) ([a-z_]\w+)', line):
             if found[1] not in self.crates:
                 self.say(place, '%s: no such crate' % found[0])
 

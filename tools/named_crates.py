@@ -22,6 +22,8 @@ def text_of(crate):
     folder = os.path.join(ROOT, 'crates', crate)
     code, logic = '', ''
     for path in glob.glob(folder + '/**/*', recursive=True):
+        if path.startswith(os.path.join(folder, 'out') + os.sep):
+            continue  # what rt makes
         if path.endswith('.rt'):
             with open(path, encoding='utf-8') as f:
                 code += re.sub(r'//[^\n]*', '', f.read())

@@ -31,7 +31,7 @@ def read(path):
 
 def pages():
     found = glob.glob(os.path.join(ROOT, '**', '*.md'), recursive=True)
-    return sorted(os.path.relpath(p, ROOT) for p in found if not os.path.relpath(p, ROOT).startswith(('target', 'real', 'wip')))
+    return sorted(os.path.relpath(p, ROOT) for p in found if not os.path.relpath(p, ROOT).startswith(('target', 'real', 'wip')) and '/out/' not in p)
 
 
 def prose(text):
@@ -148,7 +148,7 @@ def main():
     code = [p for end in ('rt', 'antt', 'sh', 'py', 'rs', 'c', 'h', 'md', 'cpp') for p in glob.glob(os.path.join(ROOT, '**', '*.' + end), recursive=True)]
     for path in sorted(code) + [os.path.join(ROOT, 'step')]:
         shown = os.path.relpath(path, ROOT)
-        if shown.startswith(('target', 'real')) or shown == 'tools/pages.py' or shown.startswith('docs/landings/1') or 'landings/house' in shown or 'landings/once' in shown:
+        if shown.startswith(('target', 'real')) or '/out/' in shown or shown == 'tools/pages.py' or shown.startswith('docs/landings/1') or 'landings/house' in shown or 'landings/once' in shown:
             continue
         for n, line in enumerate(read(shown).split('\n'), 1):
             look.cited('%s:%d' % (shown, n), line)

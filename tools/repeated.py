@@ -52,7 +52,7 @@ def main():
     for d, _, fs in os.walk(root):
         for f in sorted(fs):
             p = os.path.join(d, f)
-            if (f.endswith(".rt") or f.endswith(".antt")) and "/target/" not in p and "/declared" not in p:
+            if (f.endswith(".rt") or f.endswith(".antt")) and "/target/" not in p and "/out/" not in p and "/declared" not in p:
                 files[kind(p)][p] = lines(p)
     for k in ("sources", "specs", "proofs"):
         seen = defaultdict(list)
