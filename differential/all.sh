@@ -13,7 +13,8 @@
 #   GRAMMAR, LONG, DAMAGED  cases of these three (default 3700000, 300000 and 1300000)
 #   DRAWN          cases of each of `parameters`, `lookups` and `units`, which generate.py makes (default 20000)
 #   ASKED          of so many chunks one is answered by `asks` too (default 8); the streams that are no chunks are always
-#   FUZZ           seconds of coverage-guided search by each program (default 120; 0: the cases that are kept alone)
+#   FUZZ           seconds of coverage-guided search by each program (default 0: the cases that are kept alone, since fuzz.sh builds its
+#                  programs by ../shared/perf/native.sh, which calls the kit before today's)
 #   SEED           (default 1)    CHUNK  cases made at once (default 100000)    JOBS  chunks at a time (default: the processors)
 #   ORACLE, MANY, REAL  as in compare.sh; MANY is the executable of many/
 # The last lines are the figures; the status is 0 only where nothing differs that docs/DIFFERENCES.md does not list, and each answer that
@@ -58,9 +59,9 @@ export ORACLE MANY ANSWERS ASKS TALLY DIFFERENCES
 
 # Coverage-guided: each search begins with the cases that are kept.
 cp "$here/found.run" "$work/found.run"
-if [ "${FUZZ:-120}" -gt 0 ]; then
+if [ "${FUZZ:-0}" -gt 0 ]; then
     for name in answers asks; do
-        SECONDS_EACH=${FUZZ:-120} SEED=$seed NATIVE=$work/native "$here/fuzz.sh" "$name" "$work/found.$name" "$work/fuzz" >&2
+        SECONDS_EACH=$FUZZ SEED=$seed NATIVE=$work/native "$here/fuzz.sh" "$name" "$work/found.$name" "$work/fuzz" >&2
     done
     "$MANY" union "$work/found.answers" "$work/found.asks" >"$work/found.run"
 fi

@@ -13,7 +13,7 @@ shift 4
 case $part in asks) program=$ASKS ;; *) program=$ANSWERS ;; esac
 work=$(mktemp -d)
 trap 'rm -rf "$work"' EXIT
-# The program may keep its rooms on the stack.
+# The program chooses its rooms by the stack limit.
 # shellcheck disable=SC3045
 ulimit -s 1000000 2>/dev/null || true
 "$@" --skip "$skip" --take "$take" >"$work/run"

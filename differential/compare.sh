@@ -52,7 +52,7 @@ make="python3 $here/generate.py"
 oracle=${ORACLE:-}
 [ -n "$oracle" ] || oracle=$("$here/build.sh" "$work/oracle")
 
-# The program may keep its rooms on the stack.
+# The program chooses its rooms by the stack limit.
 # shellcheck disable=SC3045
 ulimit -s 1000000 2>/dev/null || echo "compare.sh: the stack stays at $(ulimit -s) KiB" >&2
 

@@ -6,6 +6,8 @@
 # PROGRAM is `answers` or `asks`. FOUND gets a run of cases: those of found.run and those that were found, without those that cover nothing of
 # their own. Nothing is compared here: all.sh answers the run by both sides.
 # The last line is `found N`. WORK_FOLDER is kept, so that a second run builds nothing anew.
+# The module is made by ../shared/perf/native.sh, beside the repository, which calls the kit before the one that KIT names: with today's kit nothing
+# is built here, and all.sh leaves the search out.
 # Environment:
 #   SECONDS_EACH  how long the search lasts (default 120)
 #   MOST          the longest case (default 600 bytes)
@@ -13,7 +15,7 @@
 #   NATIVE        where the module is proved and kept (default: a folder in WORK_FOLDER)
 #   CLANG         a clang with libFuzzer's library (default: clang-14, else clang; installed from Debian if need be)
 set -eu
-[ $# -ge 2 ] || { sed -n '2,16s/^# \{0,1\}//p' "$0" >&2; exit 2; }
+[ $# -ge 2 ] || { sed -n '2,18s/^# \{0,1\}//p' "$0" >&2; exit 2; }
 here=$(CDPATH='' cd -- "$(dirname -- "$0")" && pwd)
 program=$1
 found=$2

@@ -31,7 +31,7 @@ else
     set -- "$program"
 fi
 
-# The program may keep its rooms on the stack.
+# The program chooses its rooms by the stack limit.
 # shellcheck disable=SC3045
 ulimit -s 1000000 2>/dev/null || echo "rearrange.sh: the stack stays at $(ulimit -s) KiB" >&2
 python3 "$here/rearrange.py" run "${COUNT:-100000}" "${SEED:-1}" "${CHUNK:-500}" "${SHOW:-1}" "$work" "$@"
