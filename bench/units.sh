@@ -11,7 +11,7 @@ set -eu
 here=$(CDPATH='' cd -- "$(dirname -- "$0")" && pwd)
 work=$(mktemp -d)
 trap 'rm -rf "$work"' EXIT
-# The program keeps its rooms on the stack.
+# The program chooses its rooms by the stack limit.
 # shellcheck disable=SC3045
 ulimit -s 1000000
 
