@@ -5,7 +5,7 @@
 // more than the longest case that it takes.
 #![tactic(auto)]
 
-use input::{Brought, BytesRead, Feed, NumberLine};
+use input::{Brought, BytesRead, Feed, NumberLine, Source};
 use std::io::Read;
 use std::rt::{Env, Files};
 
@@ -131,18 +131,47 @@ fn take_named<R: Env + Files + Input + Eprint + Alloc>(
     let mut name = [0u8; 4096];
     let opened = input::open_argument(rt, argument, &mut name);
     match opened.source {
-        Some(mut source) => read(feed, file.len(), filled(rt, &mut source, file)),
+        Some(mut source) => read(feed, file.len(), filled(rt, &mut source, file, argument)),
         None => none(feed, UNOPENED),
     }
 }
 
-// Reads a file into the room. Where that fails, standard error says why.
-fn filled<E: Eprint + Alloc, R: Read>(rt: &E, from: &mut R, file: &mut [u8]) -> BytesRead {
-    let got = input::fill(from, file);
+// Linux's number of what cannot be read, since it is closed.
+const EBADF: i32 = 9;
+
+// Reads the file that this argument names into the room; standard input once, as if it were closed behind the case. Where that fails, standard
+// error says why.
+fn filled<E: Env + Eprint + Alloc, F: Read, S: Read>(
+    rt: &E,
+    from: &mut Source<F, S>,
+    file: &mut [u8],
+    argument: usize,
+) -> BytesRead {
+    let is_closed = matches!(from, Source::Stdin(_)) && is_named_before(rt, argument);
+    let got = if is_closed {
+        BytesRead {
+            count: 0,
+            failed: 1,
+            error: EBADF,
+        }
+    } else {
+        input::fill(from, file)
+    };
     if got.failed != 0 {
         input::fail(rt, "read", got.error);
     }
     got
+}
+
+// Whether an argument before this one names standard input.
+fn is_named_before<R: Env>(rt: &R, argument: usize) -> bool {
+    let mut name = [0u8; 2];
+    for i in 1..argument {
+        if input::argument(rt, i, &mut name) == 1 && name[0] == b'-' {
+            return true;
+        }
+    }
+    false
 }
 
 // What became of a file of which so much was read into a room of this length.

@@ -130,10 +130,10 @@ fn size_of_file<F: Seek>(file: &mut F) -> u64 {
     end.unwrap_or(u64::MAX)
 }
 
-// The size of the file that standard input is.
+// The size of the file that standard input is. A file of no bytes may be one whose size is not told, as those of /proc.
 fn size_of_input<R: Files>(rt: &R) -> u64 {
     match fs::metadata(rt, "/dev/stdin") {
-        Ok(found) if found.is_file() => found.len(),
+        Ok(found) if found.is_file() && found.len() > 0 => found.len(),
         _ => u64::MAX,
     }
 }
