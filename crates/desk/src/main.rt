@@ -84,7 +84,9 @@ fn over_file<R: Env + Files + Input + Print + Eprint + AllocGlobal>(
         &name[..n],
         title(task, at.several, n),
     );
-    rooms::read(rt, limit, task, at.id, opened.source, out, titled)
+    // what is told so far is written first: where there is no memory for the rooms, it is not lost
+    let written = printing::flush(rt, out, titled);
+    rooms::read(rt, limit, task, at.id, opened.source, out, written)
 }
 
 fn open<R: Env + Files + Input + Eprint + Alloc>(
