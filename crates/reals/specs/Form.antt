@@ -67,7 +67,7 @@ pub data RealForm : List ℕ → Answer ℕ → Type 0 where
   other : {t : List ℕ} → ((s down : Bool) (w f x : List ℕ) → WrittenReal t s w f down x → ⊥) → RealForm t (refused 12)
 
 -- what a text answers where any real is answered: the nearest f64, ties to even, the sign kept at zero, whatever the digits and the exponent. There is no class
--- and so no 13. Where zeros end and infinities begin, nearest/specs/Borders.antt shows of `IsNearest`, and AnyBorders.antt of a text
+-- and so no 13. Where zeros end and infinities begin, nearest/proofs/Borders.antt shows of `IsNearest`, and AnyBorders.antt of a text
 pub data AnyForm : List ℕ → Answer ℕ → Type 0 where
   real : {t w f x : List ℕ} {s down : Bool} {b : ℕ} → WrittenReal t s w f down x
       → IsNearest (upper_side (value_of (w ++ f)) down (value_of x)) (lower_side (length f) down (value_of x)) b → AnyForm t (read (signed s b))
