@@ -1,13 +1,49 @@
 // The refusals of document 01, as the Rust's error.rs has them in one place.
 //
 // A refusal is one case of `Fault`, with the values that the case needs. What number, reason and place document 01
-// gives to it is said once, by `told` of specs/Refusal.antt; the three functions below compute its parts.
+// gives to it is said once, by `told` of specs/Refusal.antt; the three methods below compute its parts.
 #![tactic(auto)]
 
 ghost use Rattle.std.specs.Prelude.{◌≡◌};
-ghost use Rattle.error.specs.Refusal.{told};
+ghost use Rattle.error.specs.Refusal.{told, told_reason};
 
-#[derive(Clone, Copy)]
+// Why a record is bad, in the order in which it is tested. Each is 7, with a reason of its own.
+#[derive(Clone, Copy, PartialEq, Eq)]
+pub enum Reason {
+    // 1: a header record without `(`.
+    NoHeaderParen,
+    // 2: no `#`.
+    NoHash,
+    // 3: an id above 4294967295.
+    LargeId,
+    // 4: no digits.
+    NoDigits,
+    // 5: no `=`.
+    NoEqual,
+    // 6: nothing after the `=`.
+    NoValue,
+    // 7: no `(`.
+    NoParen,
+}
+
+impl Reason {
+    // The reason's number in document 01's table.
+    pub fn number(self) -> u8
+        ensures { result ≡ told_reason self }
+    {
+        match self {
+            Reason::NoHeaderParen => 1,
+            Reason::NoHash => 2,
+            Reason::LargeId => 3,
+            Reason::NoDigits => 4,
+            Reason::NoEqual => 5,
+            Reason::NoValue => 6,
+            Reason::NoParen => 7,
+        }
+    }
+}
+
+#[derive(Clone, Copy, PartialEq, Eq)]
 pub enum Fault {
     // 1: no Part 21 marker.
     NoMarker,
@@ -22,7 +58,7 @@ pub enum Fault {
     // 6: parenthesis open, at its `(`.
     OpenParen(usize),
     // 7: bad record, with its reason, at its start.
-    BadRecord(u8, usize),
+    BadRecord(Reason, usize),
     // 8: no row left, at the record's start.
     NoRow(usize),
     // 9: span or kept row outside the file or backwards; left-over bytes or a bad mark in kept rows.
@@ -43,74 +79,59 @@ pub enum Fault {
     TooShort(usize),
 }
 
-// The refusal's number in document 01's table.
-pub fn number(f: Fault) -> u8
-    ensures { result ≡ (told f).number }
-{
-    match f {
-        Fault::NoMarker => 1,
-        Fault::TooLong => 2,
-        Fault::OpenComment(_) => 3,
-        Fault::OpenString(_) => 4,
-        Fault::NoEnd(_) => 5,
-        Fault::OpenParen(_) => 6,
-        Fault::BadRecord(_, _) => 7,
-        Fault::NoRow(_) => 8,
-        Fault::OutOfFile => 9,
-        Fault::NoParameter(_) => 10,
-        Fault::OpenLiteral(_) => 11,
-        Fault::WrongType(_) => 12,
-        Fault::OutsideClass(_) => 13,
-        Fault::NoRecord => 14,
-        Fault::TooDeep(_) => 15,
-        Fault::TooShort(_) => 16,
+impl Fault {
+    // The refusal's number in document 01's table.
+    pub fn number(self) -> u8
+        ensures { result ≡ (told self).number }
+    {
+        match self {
+            Fault::NoMarker => 1,
+            Fault::TooLong => 2,
+            Fault::OpenComment(_) => 3,
+            Fault::OpenString(_) => 4,
+            Fault::NoEnd(_) => 5,
+            Fault::OpenParen(_) => 6,
+            Fault::BadRecord(_, _) => 7,
+            Fault::NoRow(_) => 8,
+            Fault::OutOfFile => 9,
+            Fault::NoParameter(_) => 10,
+            Fault::OpenLiteral(_) => 11,
+            Fault::WrongType(_) => 12,
+            Fault::OutsideClass(_) => 13,
+            Fault::NoRecord => 14,
+            Fault::TooDeep(_) => 15,
+            Fault::TooShort(_) => 16,
+        }
     }
-}
 
-// The reason of refusal 7, and 0 of every other.
-pub fn reason(f: Fault) -> u8
-    ensures { result ≡ (told f).reason }
-{
-    match f {
-        Fault::NoMarker => 0,
-        Fault::TooLong => 0,
-        Fault::OpenComment(_) => 0,
-        Fault::OpenString(_) => 0,
-        Fault::NoEnd(_) => 0,
-        Fault::OpenParen(_) => 0,
-        Fault::BadRecord(why, _) => why,
-        Fault::NoRow(_) => 0,
-        Fault::OutOfFile => 0,
-        Fault::NoParameter(_) => 0,
-        Fault::OpenLiteral(_) => 0,
-        Fault::WrongType(_) => 0,
-        Fault::OutsideClass(_) => 0,
-        Fault::NoRecord => 0,
-        Fault::TooDeep(_) => 0,
-        Fault::TooShort(_) => 0,
+    // The reason of refusal 7, and 0 of every other.
+    pub fn reason(self) -> u8
+        ensures { result ≡ (told self).reason }
+    {
+        match self {
+            Fault::BadRecord(why, _) => why.number(),
+            _ => 0,
+        }
     }
-}
 
-// The refusal's place in the input.
-pub fn place(f: Fault) -> usize
-    ensures { result ≡ (told f).place }
-{
-    match f {
-        Fault::NoMarker => 0,
-        Fault::TooLong => 0,
-        Fault::OpenComment(at) => at,
-        Fault::OpenString(at) => at,
-        Fault::NoEnd(at) => at,
-        Fault::OpenParen(at) => at,
-        Fault::BadRecord(_, at) => at,
-        Fault::NoRow(at) => at,
-        Fault::OutOfFile => 0,
-        Fault::NoParameter(at) => at,
-        Fault::OpenLiteral(at) => at,
-        Fault::WrongType(at) => at,
-        Fault::OutsideClass(at) => at,
-        Fault::NoRecord => 0,
-        Fault::TooDeep(at) => at,
-        Fault::TooShort(at) => at,
+    // The refusal's place in the input.
+    pub fn place(self) -> usize
+        ensures { result ≡ (told self).place }
+    {
+        match self {
+            Fault::NoMarker | Fault::TooLong | Fault::OutOfFile | Fault::NoRecord => 0,
+            Fault::OpenComment(at)
+            | Fault::OpenString(at)
+            | Fault::NoEnd(at)
+            | Fault::OpenParen(at)
+            | Fault::BadRecord(_, at)
+            | Fault::NoRow(at)
+            | Fault::NoParameter(at)
+            | Fault::OpenLiteral(at)
+            | Fault::WrongType(at)
+            | Fault::OutsideClass(at)
+            | Fault::TooDeep(at)
+            | Fault::TooShort(at) => at,
+        }
     }
 }
