@@ -1,15 +1,11 @@
 -- What the answers of the public functions say: of a search, of a byte that is sought, of a quote and of a string's end. Assumes nothing.
 -- Definitions to be believed: no law, and nothing computed that no theorem ties (docs/BELIEVE.md).
-use Rattle.std.specs.Prelude.{ℕ, ◌≤◌, ◌<◌, List, [], ◌∷◌, ◌≡◌, get_or, length, drop}
-use Rattle.error.specs.Refusal.{refusal, Told, good, bad, told}
+use Rattle.std.specs.Prelude.{ℕ, ◌≤◌, ◌<◌, List, [], ◌∷◌, ◌≡◌, get_or, length, drop, Option, Some, None}
+use Rattle.error.specs.Refusal.{refusal, Told, good, bad}
 use Rattle.lex.specs.Byte.{place}
 use Rattle.lex.specs.Grammar.{Begins, Quotation, OpenText}
-use Rattle.lex.specs.declared.FoundPlace.{FoundPlace}
-use Rattle.lex.specs.declared.FoundPlace.TheVariants.{At, Refused}
 use Rattle.lex.specs.declared.Quote.{Quote}
 use Rattle.lex.specs.declared.Quote.TheVariants.{Doubled, Single, Last}
-use Rattle.lex.specs.declared.TextEnd.{TextEnd}
-use Rattle.lex.specs.declared.TextEnd.TheVariants.{After, Never}
 
 -- the rest from where a search stopped, or a refusal's number and the rest from its place
 pub data Sought : Type 0 where
@@ -20,11 +16,6 @@ pub data Sought : Type 0 where
 abbrev pub placed : List ℕ → Sought → Told ℕ
 placed s (at r) = good (place s r)
 placed s (fault n r) = bad (refusal n 0 (place s r))
-
--- what the code's answer of a search says: a place, or a refusal
-abbrev pub told_found_place : FoundPlace → Told ℕ
-told_found_place (At p) = good p
-told_found_place (Refused f) = bad (told f)
 
 -- none of the bytes from i on and before r is b
 unfoldable pub Lacks : ℕ → List ℕ → ℕ → ℕ → Type 0
@@ -48,6 +39,6 @@ QuoteIs xs Last = xs ≡ []
 
 -- "A string ends at a quote not followed by a quote", the quotes inside it paired off first: the place after the string whose inside begins at i, or
 -- that it never ends
-abbrev pub TextEnds : List ℕ → ℕ → TextEnd → Type 0
-TextEnds s i (After p) = (i < p) × (p ≤ length s) × Quotation (39 ∷ drop i s) (drop p s)
-TextEnds s i Never = OpenText (39 ∷ drop i s)
+abbrev pub TextEnds : List ℕ → ℕ → Option ℕ → Type 0
+TextEnds s i (Some p) = (i < p) × (p ≤ length s) × Quotation (39 ∷ drop i s) (drop p s)
+TextEnds s i None = OpenText (39 ∷ drop i s)

@@ -1,7 +1,7 @@
 -- What the code passes at one go on its way to a record's `;` and to a closing `)`: a string, a comment, a byte outside both, and blocks of
 -- bytes in which nothing is to be looked at one by one. All is said of `plainly`, the search outside strings and comments, for which it does not
 -- matter where the last byte outside stood. No contract of a public function cites these. Assumes nothing.
-use Rattle.std.specs.Prelude.{ℕ, suc, ◌+◌, ◌-◌, ◌≤◌, ◌<◌, min, ◌≡◌, refl, Bool, true, false, ◌||◌, List, ◌∷◌, ◌++◌, eqb, length, drop, get_or}
+use Rattle.std.specs.Prelude.{ℕ, suc, ◌+◌, ◌-◌, ◌≤◌, ◌<◌, min, ◌≡◌, refl, Bool, true, false, ◌||◌, List, ◌∷◌, ◌++◌, eqb, length, drop, get_or, Result, Ok, Err}
 use Rattle.std.proofs.Common.{sym, ◌∙◌, ap, arith, eq-eqb, ne_eqb, eqb-true}
 use Rattle.std.proofs.Math.Decide.{dec_le}
 use Rattle.std.proofs.lemmas.Bool.{eqb-false}
@@ -20,8 +20,7 @@ use Rattle.lex.specs.Grammar.{Begins, Quotation, OpenText}
 use Rattle.lex.specs.Local.{seek}
 use Rattle.lex.specs.Right.Steps.{plainly, unstarred, outside_forgotten, unslashed, text_shut, text_open, seek_deaf}
 use Rattle.lex.specs.Right.Tokens.{open_text}
-use Rattle.lex.specs.declared.FoundPlace.{FoundPlace}
-use Rattle.lex.specs.declared.FoundPlace.TheVariants.{At, Refused}
+use Rattle.error.specs.declared.Fault.{Fault}
 use Rattle.lex.specs.declared.Stand.{Stand}
 use Rattle.lex.specs.declared.Mode.{Mode}
 use Rattle.lex.specs.declared.Mode.TheVariants.{Plain, Slash, Text, Remark, Starred}
@@ -40,15 +39,15 @@ abbrev pub LeavesAt : List ℕ → Mode → ℕ → ℕ → ℕ → Type 0
 LeavesAt s m q i p = (f : ℕ → ℕ → Look) (n : ℕ) (w : List ℕ) (d : ℕ) → seek f (missed n w) m d (drop q s) (drop i s) ≡ plainly f n w d (drop p s)
 
 -- a search in mode m, in a string or a comment that began at q, read from i on, leaves it at a place, or is refused
-abbrev pub LeavesOrRefused : List ℕ → Mode → ℕ → ℕ → FoundPlace → Type 0
-LeavesOrRefused s m q i (At p) = (i ≤ p) × (p ≤ length s) × LeavesAt s m q i p
-LeavesOrRefused s m q i (Refused g) = (f : ℕ → ℕ → Look) (n : ℕ) (w : List ℕ) (d : ℕ) → placed s (seek f (missed n w) m d (drop q s) (drop i s)) ≡ bad (told g)
+abbrev pub LeavesOrRefused : List ℕ → Mode → ℕ → ℕ → Result ℕ Fault → Type 0
+LeavesOrRefused s m q i (Ok p) = (i ≤ p) × (p ≤ length s) × LeavesAt s m q i p
+LeavesOrRefused s m q i (Err g) = (f : ℕ → ℕ → Look) (n : ℕ) (w : List ℕ) (d : ℕ) → placed s (seek f (missed n w) m d (drop q s) (drop i s)) ≡ bad (told g)
 
 -- a search outside strings and comments that does not halt at the byte at i is outside again at a place after it, or is refused
-abbrev pub OutsideAgain : List ℕ → ℕ → FoundPlace → Type 0
-OutsideAgain s i (At p) =
+abbrev pub OutsideAgain : List ℕ → ℕ → Result ℕ Fault → Type 0
+OutsideAgain s i (Ok p) =
     (i < p) × (p ≤ length s) × ((f : ℕ → ℕ → Look) (n : ℕ) (w : List ℕ) (d e : ℕ) → f d (get_or s i 0) ≡ look e → plainly f n w d (drop i s) ≡ plainly f n w e (drop p s))
-OutsideAgain s i (Refused g) = (f : ℕ → ℕ → Look) (n : ℕ) (w : List ℕ) (d e : ℕ) → f d (get_or s i 0) ≡ look e → placed s (plainly f n w d (drop i s)) ≡ bad (told g)
+OutsideAgain s i (Err g) = (f : ℕ → ℕ → Look) (n : ℕ) (w : List ℕ) (d e : ℕ) → f d (get_or s i 0) ≡ look e → placed s (plainly f n w d (drop i s)) ≡ bad (told g)
 
 -- a search for a record's `;` goes on from j as from i
 abbrev pub Quiet : List ℕ → ℕ → ℕ → Type 0
@@ -149,7 +148,7 @@ module _ (s : List ℕ) (i : ℕ) (h : i < length s) where
       (rw l (ap (λ (x : List ℕ). on (seen (fresh (get_or s i 0)) e x)) (sym (split s i h))))
 
   -- a search goes on after a byte at i that is no quote and no slash
-  pub onward_byte : (get_or s i 0 ≡ 39 → ⊥) → (get_or s i 0 ≡ 47 → ⊥) → OutsideAgain s i (At (i + 1))
+  pub onward_byte : (get_or s i 0 ≡ 39 → ⊥) → (get_or s i 0 ≡ 47 → ⊥) → OutsideAgain s i (Ok (i + 1))
   onward_byte a b = (
     omega arith,
     omega arith,
@@ -157,7 +156,7 @@ module _ (s : List ℕ) (i : ℕ) (h : i < length s) where
   )
 
   -- a search goes on after a slash at i that no star follows
-  pub onward_slash : get_or s i 0 ≡ 47 → (i + 1 < length s → get_or s (i + 1) 0 ≡ 42 → ⊥) → OutsideAgain s i (At (i + 1))
+  pub onward_slash : get_or s i 0 ≡ 47 → (i + 1 < length s → get_or s (i + 1) 0 ≡ 42 → ⊥) → OutsideAgain s i (Ok (i + 1))
   onward_slash a b = (
     omega arith,
     omega arith,
@@ -165,9 +164,9 @@ module _ (s : List ℕ) (i : ℕ) (h : i < length s) where
   )
 
   -- a search goes on after a string that opens at i, or is refused in it
-  pub onward_text : get_or s i 0 ≡ 39 → (r : FoundPlace) → LeavesOrRefused s Text i (i + 1) r → OutsideAgain s i r
-  onward_text a (At p) (x, y, b) = (omega arith, y, λ f n w d e l. first f n w d e l ∙ rw (eq-eqb (get_or s i 0) 39 a) (b f n w e))
-  onward_text a (Refused g) b = λ f n w d e l. ap (placed s) (first f n w d e l) ∙ rw (eq-eqb (get_or s i 0) 39 a) (b f n w e)
+  pub onward_text : get_or s i 0 ≡ 39 → (r : Result ℕ Fault) → LeavesOrRefused s Text i (i + 1) r → OutsideAgain s i r
+  onward_text a (Ok p) (x, y, b) = (omega arith, y, λ f n w d e l. first f n w d e l ∙ rw (eq-eqb (get_or s i 0) 39 a) (b f n w e))
+  onward_text a (Err g) b = λ f n w d e l. ap (placed s) (first f n w d e l) ∙ rw (eq-eqb (get_or s i 0) 39 a) (b f n w e)
 
   -- where a slash and a star stand at i, a search goes on in a comment
   opens : get_or s i 0 ≡ 47 → i + 1 < length s → get_or s (i + 1) 0 ≡ 42 → (f : ℕ → ℕ → Look) (n : ℕ) (w : List ℕ) (d e : ℕ) → f d (get_or s i 0) ≡ look e
@@ -180,9 +179,9 @@ module _ (s : List ℕ) (i : ℕ) (h : i < length s) where
       ∙ ap (λ (j : ℕ). seek f (missed n w) Remark e (drop i s) (drop j s)) g
 
   -- a search goes on after a comment that opens at i, or is refused in it
-  pub onward_remark : get_or s i 0 ≡ 47 → i + 1 < length s → get_or s (i + 1) 0 ≡ 42 → (r : FoundPlace) → LeavesOrRefused s Remark i (i + 2) r → OutsideAgain s i r
-  onward_remark a k b (At p) (x, y, c) = (omega arith, y, λ f n w d e l. opens a k b f n w d e l ∙ c f n w e)
-  onward_remark a k b (Refused g) c = λ f n w d e l. ap (placed s) (opens a k b f n w d e l) ∙ c f n w e
+  pub onward_remark : get_or s i 0 ≡ 47 → i + 1 < length s → get_or s (i + 1) 0 ≡ 42 → (r : Result ℕ Fault) → LeavesOrRefused s Remark i (i + 2) r → OutsideAgain s i r
+  onward_remark a k b (Ok p) (x, y, c) = (omega arith, y, λ f n w d e l. opens a k b f n w d e l ∙ c f n w e)
+  onward_remark a k b (Err g) c = λ f n w d e l. ap (placed s) (opens a k b f n w d e l) ∙ c f n w e
 
 -- a byte that is neither a quote nor a slash nor a `;`
 pub quiet_byte : (s : List ℕ) (i j : ℕ) → j < length s → eqb (get_or s j 0) 39 ≡ false → eqb (get_or s j 0) 47 ≡ false → eqb (get_or s j 0) 59 ≡ false → Quiet s i j → Quiet s i (j + 1)

@@ -1,7 +1,7 @@
 -- A quote in a string, and where the string ends. "A string ends at a quote not followed by a quote", the quotes inside it paired off first:
 -- what a string is stands in Grammar.antt (`Inside`, `Quotation`, `OpenText`). What the code's answers say, in the grammar's words, stands in
 -- Answer.antt (`QuoteIs`, `TextEnds`). Here are the laws of the loop that seeks a string's end. Assumes nothing.
-use Rattle.std.specs.Prelude.{ℕ, zero, suc, ◌+◌, ◌-◌, ◌≤◌, ◌<◌, min, ◌≡◌, refl, List, [], ◌∷◌, ◌++◌, length, drop, get_or}
+use Rattle.std.specs.Prelude.{ℕ, zero, suc, ◌+◌, ◌-◌, ◌≤◌, ◌<◌, min, ◌≡◌, refl, List, [], ◌∷◌, ◌++◌, length, drop, get_or, Option, Some, None}
 use Rattle.std.proofs.Common.{sym, ◌∙◌, ap, subst, append-nil, append_assoc, arith, length-drop, length-append}
 use Rattle.std.proofs.lemmas.Bool.{eqb-false}
 use Rattle.common.specs.Lists.{split, drop_end}
@@ -14,15 +14,13 @@ use Rattle.lex.specs.Grammar.{Begins, Inside, OpenText}
 use Rattle.lex.specs.Right.Tokens.{string_unended, one_end}
 use Rattle.lex.specs.declared.Quote.{Quote}
 use Rattle.lex.specs.declared.Quote.TheVariants.{Doubled, Single, Last}
-use Rattle.lex.specs.declared.TextEnd.{TextEnd}
-use Rattle.lex.specs.declared.TextEnd.TheVariants.{After, Never}
 
 -- `'a'''`: an `a` and three quotes in a row
 abbrev three : List ℕ
 three = 39 ∷ 97 ∷ 39 ∷ 39 ∷ 39 ∷ []
 
 -- of the three quotes in `'a'''` the first two are a pair, and the third is the end
-pub three_quotes : TextEnds three 1 (After 5)
+pub three_quotes : TextEnds three 1 (Some 5)
 three_quotes = (
   omega arith,
   omega arith,
@@ -104,8 +102,8 @@ last_quote xs e (r, f) = clash (cc)
 -- still inside, and after `'` and no quote the string has ended
 abbrev pub AtQuote : List ℕ → ℕ → ℕ → Quote → Type 0
 AtQuote s i q Doubled = (q + 2 ≤ length s) × InText s i (q + 2)
-AtQuote s i q Single = TextEnds s i (After (q + 1))
-AtQuote s i q Last = TextEnds s i (After (q + 1))
+AtQuote s i q Single = TextEnds s i (Some (q + 1))
+AtQuote s i q Last = TextEnds s i (Some (q + 1))
 
 -- Up to q the bytes from i on are the inside of a string.
 module _ (s : List ℕ) (i q : ℕ) (a : InText s i q) where
@@ -128,7 +126,7 @@ module _ (s : List ℕ) (i q : ℕ) (a : InText s i q) where
         (omega arith, in_text_on s i q (q + 2) a (record { body = 39 ∷ 39 ∷ []; inside = Inside.doubled Inside.none; shape = b }))
 
     -- a quote at q that no quote follows is the string's end
-    text_ended : (Begins 39 (drop (q + 1) s) → ⊥) → TextEnds s i (After (q + 1))
+    text_ended : (Begins 39 (drop (q + 1) s) → ⊥) → TextEnds s i (Some (q + 1))
     text_ended k =
         let b : drop i s ≡ a.body ++ (39 ∷ drop (q + 1) s) = a.shape ∙ ap (λ (r : List ℕ). a.body ++ r) (split s q h ∙ rw g refl) in
         let n : length (drop i s) ≡ length a.body + suc (length (drop (q + 1) s)) = ap length b ∙ length-append a.body (39 ∷ drop (q + 1) s) in
@@ -153,10 +151,10 @@ quote_only xs Last Single h (c, r, e, k) = clash (cc)
 quote_only xs Last Last h k = refl
 
 -- two answers that `TextEnds` allows are one
-pub text_end_only : (s : List ℕ) (i : ℕ) (a b : TextEnd) → TextEnds s i a → TextEnds s i b → a ≡ b
-text_end_only s i (After p) (After q) (h, k, u) (l, m, v) =
+pub text_end_only : (s : List ℕ) (i : ℕ) (a b : Option ℕ) → TextEnds s i a → TextEnds s i b → a ≡ b
+text_end_only s i (Some p) (Some q) (h, k, u) (l, m, v) =
     let e : length (drop p s) ≡ length (drop q s) = ap length (one_end (drop i s) (drop p s) (drop q s) u v) in
-    ap After (omega (arith, length-drop p s, length-drop q s))
-text_end_only s i (After p) Never (h, k, u) (l, m) = absurd (m (drop p s) u)
-text_end_only s i Never (After q) (h, k) (l, m, u) = absurd (k (drop q s) u)
-text_end_only s i Never Never h k = refl
+    ap Some (omega (arith, length-drop p s, length-drop q s))
+text_end_only s i (Some p) None (h, k, u) (l, m) = absurd (m (drop p s) u)
+text_end_only s i None (Some q) (h, k) (l, m, u) = absurd (k (drop q s) u)
+text_end_only s i None None h k = refl

@@ -2,7 +2,7 @@
 -- Each answers the rest of the file from where it stopped, or a refusal number with the rest from the refusal's place.
 -- Grammar.antt says what they find without a loop, and Right.antt that they find it and nothing else.
 -- Assumes nothing.
-use Rattle.std.specs.Prelude.{ℕ, zero, suc, List, [], ◌∷◌, eqb, drop}
+use Rattle.std.specs.Prelude.{ℕ, zero, suc, List, [], ◌∷◌, eqb, drop, Option, Some, None}
 use Rattle.common.specs.Pick.{pick}
 use Rattle.lex.specs.Byte.{white}
 use Rattle.common.specs.Walk.{Turn, stop, on, walk}
@@ -10,8 +10,6 @@ use Rattle.lex.specs.Lexer.{calm, next_mode}
 use Rattle.lex.specs.Answer.{Sought, at, fault}
 use Rattle.lex.specs.declared.Mode.{Mode}
 use Rattle.lex.specs.declared.Mode.TheVariants.{Plain, Slash, Text, Quoted, Remark, Starred}
-use Rattle.lex.specs.declared.Level.{Level}
-use Rattle.lex.specs.declared.Level.TheVariants.{Closed, Open}
 
 -- a search's state: the mode, the open parentheses, and the rest from the last byte outside strings and comments, which is
 -- where a string or a comment that is open now begins
@@ -107,6 +105,6 @@ unfoldable pub trivia : List ℕ → Sought
 trivia xs = walk trivia_turn trivia_end (seen Plain 0 xs) xs
 
 -- what the answer of the code's `paren` says
-abbrev pub look_of : Level → Look
-look_of Closed = halt
-look_of (Open d) = look d
+abbrev pub look_of : Option ℕ → Look
+look_of None = halt
+look_of (Some d) = look d

@@ -1,6 +1,6 @@
 -- What the code passes at one go on its way past trivia: a byte of whitespace and a comment. Of a comment it knows what `Past` says of
 -- every search for a byte; the search that halts at any byte outside tells where the trivia go on. Assumes nothing.
-use Rattle.std.specs.Prelude.{ℕ, zero, suc, ◌+◌, ◌≤◌, ◌<◌, ◌≡◌, refl, Bool, true, false, List, [], ◌∷◌, eqb, length, get_or}
+use Rattle.std.specs.Prelude.{ℕ, zero, suc, ◌+◌, ◌≤◌, ◌<◌, ◌≡◌, refl, Bool, true, false, List, [], ◌∷◌, eqb, length, get_or, Result, Ok, Err}
 use Rattle.std.proofs.Common.{sym, ◌∙◌}
 use Rattle.std.proofs.Math.Path.{ap}
 use native.Mathlib.Omega.{arith}
@@ -15,8 +15,6 @@ use Rattle.lex.specs.Answer.{Sought, at, fault, placed}
 use Rattle.lex.specs.Local.{seek}
 use Rattle.lex.specs.Right.{past_trivia, past_start, blank_step, led_stops}
 use Rattle.lex.specs.PassedAtOnce.{LeavesOrRefused, unbegun}
-use Rattle.lex.specs.declared.FoundPlace.{FoundPlace}
-use Rattle.lex.specs.declared.FoundPlace.TheVariants.{At, Refused}
 use Rattle.error.specs.declared.Fault.{Fault}
 use Rattle.error.specs.declared.Fault.TheVariants.{
   NoMarker,
@@ -96,9 +94,9 @@ refused s g (fault zero w) e = let z : (told g).number ≡ 0 = cc in absurd (ome
 refused s g (fault (suc n) w) e = e
 
 -- what the code answers of the trivia from i on: they go on from a place after i, or are refused
-abbrev pub Beyond : List ℕ → ℕ → FoundPlace → Type 0
-Beyond s i (At p) = (i < p) × (p ≤ length s) × (trivia (drop i s) ≡ trivia (drop p s))
-Beyond s i (Refused g) = placed s (trivia (drop i s)) ≡ bad (told g)
+abbrev pub Beyond : List ℕ → ℕ → Result ℕ Fault → Type 0
+Beyond s i (Ok p) = (i < p) × (p ≤ length s) × (trivia (drop i s) ≡ trivia (drop p s))
+Beyond s i (Err g) = placed s (trivia (drop i s)) ≡ bad (told g)
 
 -- past the file's end the trivia leave nothing
 pub trivia_end_lem : (s : List ℕ) (i : ℕ) → length s ≤ i → trivia (drop i s) ≡ at []
@@ -119,7 +117,7 @@ module _ (s : List ℕ) (i : ℕ) (h : i < length s) where
       (λ (r, e). let g : get_or s i 0 ≡ 47 = cc (split s i h) in unbegun s (i + 1) 42 (k g) (r, cc (split s i h)))
 
   -- where a comment opens at i, the trivia go on where the comment ends, or are refused
-  pub trivia_remark : get_or s i 0 ≡ 47 → i + 1 < length s → get_or s (i + 1) 0 ≡ 42 → (r : FoundPlace) → LeavesOrRefused s Remark i (i + 2) r → Beyond s i r
+  pub trivia_remark : get_or s i 0 ≡ 47 → i + 1 < length s → get_or s (i + 1) 0 ≡ 42 → (r : Result ℕ Fault) → LeavesOrRefused s Remark i (i + 2) r → Beyond s i r
   unfolding trivia
   trivia_remark a k b r = go r
     where
@@ -129,6 +127,6 @@ module _ (s : List ℕ) (i : ℕ) (h : i < length s) where
       start : trivia (drop i s) ≡ resumed (seek anywhere (missed 0 []) Remark 0 (drop i s) (drop (i + 2) s))
       start = ap trivia two ∙ past_start (drop (i + 2) s) ∙ ap (λ (o : List ℕ). past_trivia Remark o (drop (i + 2) s)) (sym two) ∙ (inside (drop i s) (drop (i + 2) s)).0
 
-      go : (r : FoundPlace) → LeavesOrRefused s Remark i (i + 2) r → Beyond s i r
-      go (At p) (x, y, c) = (omega arith, y, start ∙ ap resumed (c anywhere 0 [] 0) ∙ sym (resumes (drop p s) (drop p s)))
-      go (Refused g) c = ap (placed s) start ∙ refused s g (seek anywhere (missed 0 []) Remark 0 (drop i s) (drop (i + 2) s)) (c anywhere 0 [] 0)
+      go : (r : Result ℕ Fault) → LeavesOrRefused s Remark i (i + 2) r → Beyond s i r
+      go (Ok p) (x, y, c) = (omega arith, y, start ∙ ap resumed (c anywhere 0 [] 0) ∙ sym (resumes (drop p s) (drop p s)))
+      go (Err g) c = ap (placed s) start ∙ refused s g (seek anywhere (missed 0 []) Remark 0 (drop i s) (drop (i + 2) s)) (c anywhere 0 [] 0)

@@ -7,9 +7,10 @@
 
 ghost use Rattle.std.specs.Prelude.{◌≡◌, ◌+◌, ◌≤◌, ◌<◌, ◌^◌, min, true, false, ◌||◌, length, drop};
 ghost use Rattle.common.specs.Pick.{pick};
+ghost use Rattle.error.specs.Refusal.{told_result};
 ghost use Rattle.lex.specs.Byte.{white};
 ghost use Rattle.lex.specs.ByteSearch.{NoneBetween};
-ghost use Rattle.lex.specs.Answer.{Lacks, Stopped, placed, told_found_place, QuoteIs, TextEnds};
+ghost use Rattle.lex.specs.Answer.{Lacks, Stopped, placed, QuoteIs, TextEnds};
 ghost use Rattle.lex.specs.PassedAtOnce.{IsAt, LeavesOrRefused, OutsideAgain, Quiet, BlockCounted, Stood};
 ghost use Rattle.lex.specs.Search.{record_end, closing, trivia, paren, look_of};
 
@@ -25,13 +26,6 @@ pub enum Mode {
     Quoted,
     Remark,
     Starred,
-}
-
-// A place in the file, or a refusal.
-#[derive(Clone, Copy)]
-pub enum FoundPlace {
-    At(usize),
-    Refused(Fault),
 }
 
 pub fn is_space(b: u8) -> bool
@@ -144,15 +138,8 @@ fn next_quote(s: &[u8], i: usize) -> usize
     find(s, q, b'\'')
 }
 
-// The place after a string, or that it never ends.
-#[derive(Clone, Copy)]
-pub enum TextEnd {
-    After(usize),
-    Never,
-}
-
 // Where the string ends whose first quote stands before `from`; what byte stands there is not looked at.
-pub fn text_end(s: &[u8], from: usize) -> TextEnd
+pub fn text_end(s: &[u8], from: usize) -> Option<usize>
     ensures { TextEnds s.now from result }
 {
     let mut i = common::within(from, s.len());
@@ -160,29 +147,26 @@ pub fn text_end(s: &[u8], from: usize) -> TextEnd
         if s[i] == b'\'' {
             match quote_before(s, i + 1) {
                 Quote::Doubled => i += 2, // `''`: stay inside.
-                Quote::Single => return TextEnd::After(i + 1), // `'` and another byte: the end.
-                Quote::Last => return TextEnd::After(i + 1), // `'` and the file's end: the end.
+                Quote::Single => return Some(i + 1), // `'` and another byte: the end.
+                Quote::Last => return Some(i + 1), // `'` and the file's end: the end.
             }
         } else {
             i = next_quote(s, i + 1);
         }
     }
-    TextEnd::Never
+    None
 }
 
 // Past the string whose first quote stands at q.
-fn past_text(s: &[u8], q: usize) -> FoundPlace
+fn past_text(s: &[u8], q: usize) -> Result<usize, Fault>
     requires { q < length s.now }
     ensures { LeavesOrRefused s.now Mode.Text q (q + 1) result }
 {
-    match text_end(s, q + 1) {
-        TextEnd::After(next) => FoundPlace::At(next),
-        TextEnd::Never => FoundPlace::Refused(Fault::OpenString(q)),
-    }
+    text_end(s, q + 1).ok_or(Fault::OpenString(q))
 }
 
 // Past the comment whose `/` stands at q and its `*` after it.
-fn past_remark(s: &[u8], q: usize) -> FoundPlace
+fn past_remark(s: &[u8], q: usize) -> Result<usize, Fault>
     requires { q + 2 ≤ length s.now }
     ensures { LeavesOrRefused s.now Mode.Remark q (q + 2) result }
 {
@@ -190,17 +174,17 @@ fn past_remark(s: &[u8], q: usize) -> FoundPlace
     loop {
         let e = find(s, i, b'*');
         if s.len() <= e {
-            return FoundPlace::Refused(Fault::OpenComment(q));
+            return Err(Fault::OpenComment(q));
         }
         if is_at(s, e + 1, b'/') {
-            return FoundPlace::At(e + 2);
+            return Ok(e + 2);
         }
         i = e + 1;
     }
 }
 
 // Past what stands at i outside strings and comments: a string, a comment, or a byte.
-fn past(s: &[u8], i: usize) -> FoundPlace
+fn past(s: &[u8], i: usize) -> Result<usize, Fault>
     requires { i < length s.now }
     ensures { OutsideAgain s.now i result }
 {
@@ -209,10 +193,10 @@ fn past(s: &[u8], i: usize) -> FoundPlace
         return past_text(s, i);
     }
     if c != b'/' {
-        return FoundPlace::At(i + 1);
+        return Ok(i + 1);
     }
     if !is_at(s, i + 1, b'*') {
-        return FoundPlace::At(i + 1);
+        return Ok(i + 1);
     }
     past_remark(s, i)
 }
@@ -255,8 +239,8 @@ fn pass_quiet(s: &[u8], from: usize) -> usize
 
 // Finds the `;` that ends the record that begins at `start`. The bytes are looked at one by one up to `near`, then by blocks while that passes
 // any: most records are short.
-pub fn find_record_end(s: &[u8], start: usize) -> FoundPlace
-    ensures { told_found_place result ≡ placed s.now (record_end (drop start s.now)) }
+pub fn find_record_end(s: &[u8], start: usize) -> Result<usize, Fault>
+    ensures { told_result result ≡ placed s.now (record_end (drop start s.now)) }
 {
     let from = common::within(start, s.len());
     let mut i = from;
@@ -267,38 +251,29 @@ pub fn find_record_end(s: &[u8], start: usize) -> FoundPlace
             near = i + 64;
         } else {
             if s[i] == b';' {
-                return FoundPlace::At(i);
+                return Ok(i);
             }
-            match past(s, i) {
-                FoundPlace::At(next) => i = next,
-                FoundPlace::Refused(f) => return FoundPlace::Refused(f),
-            }
+            i = past(s, i)?;
         }
     }
-    FoundPlace::Refused(Fault::NoEnd(from))
+    Err(Fault::NoEnd(from))
 }
 
-// What a byte outside strings and comments does to the open parentheses: it closes the one sought, or so many are open.
-#[derive(Clone, Copy)]
-enum Level {
-    Closed,
-    Open(usize),
-}
-
-fn depth_after(depth: usize, b: u8) -> Level
+// How many parentheses are open after a byte outside strings and comments, or none where it closes the one sought.
+fn depth_after(depth: usize, b: u8) -> Option<usize>
     requires { depth < 2 ^ 63 }
     ensures { look_of result ≡ paren depth b }
 {
     if b == b'(' {
-        return Level::Open(depth + 1);
+        return Some(depth + 1);
     }
     if b != b')' {
-        return Level::Open(depth);
+        return Some(depth);
     }
     if depth == 0 {
-        return Level::Closed;
+        return None;
     }
-    Level::Open(depth - 1)
+    Some(depth - 1)
 }
 
 // How many `(` and `)` some bytes have, and whether one of them is a quote or a slash.
@@ -380,8 +355,8 @@ fn pass_calm(s: &[u8], from: usize, opened: usize) -> Stand
 }
 
 // Finds the `)` that closes the `(` at `opening`; what byte stands there is not looked at. By bytes and blocks as the search for a `;`.
-pub fn matching_paren(s: &[u8], opening: usize) -> FoundPlace
-    ensures { told_found_place result ≡ placed s.now (closing (drop opening s.now)) }
+pub fn matching_paren(s: &[u8], opening: usize) -> Result<usize, Fault>
+    ensures { told_result result ≡ placed s.now (closing (drop opening s.now)) }
 {
     let from = common::within(opening, s.len());
     let mut i = common::within(from + 1, s.len());
@@ -394,22 +369,19 @@ pub fn matching_paren(s: &[u8], opening: usize) -> FoundPlace
             depth = t.depth;
             near = i + 64;
         } else {
-            let Level::Open(d) = depth_after(depth, s[i]) else {
-                return FoundPlace::At(i);
+            let Some(d) = depth_after(depth, s[i]) else {
+                return Ok(i);
             };
-            match past(s, i) {
-                FoundPlace::At(next) => i = next,
-                FoundPlace::Refused(f) => return FoundPlace::Refused(f),
-            }
+            i = past(s, i)?;
             depth = d;
         }
     }
-    FoundPlace::Refused(Fault::OpenParen(from))
+    Err(Fault::OpenParen(from))
 }
 
 // Goes past whitespace and comments: the place of the first byte that is neither, or the file's end.
-pub fn skip_trivia(s: &[u8], start: usize) -> FoundPlace
-    ensures { told_found_place result ≡ placed s.now (trivia (drop start s.now)) }
+pub fn skip_trivia(s: &[u8], start: usize) -> Result<usize, Fault>
+    ensures { told_result result ≡ placed s.now (trivia (drop start s.now)) }
 {
     let mut i = common::within(start, s.len());
     while i < s.len() {
@@ -418,16 +390,13 @@ pub fn skip_trivia(s: &[u8], start: usize) -> FoundPlace
             i += 1;
         } else {
             if c != b'/' {
-                return FoundPlace::At(i);
+                return Ok(i);
             }
             if !is_at(s, i + 1, b'*') {
-                return FoundPlace::At(i);
+                return Ok(i);
             }
-            match past_remark(s, i) {
-                FoundPlace::At(next) => i = next,
-                FoundPlace::Refused(f) => return FoundPlace::Refused(f),
-            }
+            i = past_remark(s, i)?;
         }
     }
-    FoundPlace::At(i)
+    Ok(i)
 }

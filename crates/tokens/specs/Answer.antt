@@ -1,9 +1,7 @@
 -- Where a byte is found, and what the answers about a string's and a comment's end say. Assumes nothing.
 -- Definitions to be believed: no law, and nothing computed that no theorem ties (docs/BELIEVE.md).
-use Rattle.std.specs.Prelude.{ℕ, ◌≤◌, ◌<◌, Bool, false, List, [], ◌∷◌, eqb, drop}
+use Rattle.std.specs.Prelude.{ℕ, ◌≤◌, ◌<◌, Bool, false, List, [], ◌∷◌, eqb, drop, Option, Some, None}
 use Rattle.common.specs.Pick.{pick}
-use Rattle.tokens.specs.declared.TokenEnd.{TokenEnd}
-use Rattle.tokens.specs.declared.TokenEnd.TheVariants.{At, Never}
 
 -- the rest from the first byte b on, or nothing where there is none
 unfoldable pub from_byte : ℕ → List ℕ → List ℕ
@@ -21,11 +19,11 @@ pub data RestAfter : Type 0 where
   never : RestAfter
 
 -- what the code's answer about an end says, of the bytes s: the rest after it, or that it never comes
-abbrev pub told_token_end : List ℕ → TokenEnd → RestAfter
-told_token_end s (At p) = ends_before (drop p s)
-told_token_end s Never = never
+abbrev pub told_token_end : List ℕ → Option ℕ → RestAfter
+told_token_end s (Some p) = ends_before (drop p s)
+told_token_end s None = never
 
 -- an end lies after the start and not past the bytes' end
-abbrev pub TokenEndIn : ℕ → ℕ → TokenEnd → Type 0
-TokenEndIn start n (At p) = (start < p) × (p ≤ n)
-TokenEndIn start n Never = Unit {0}
+abbrev pub TokenEndIn : ℕ → ℕ → Option ℕ → Type 0
+TokenEndIn start n (Some p) = (start < p) × (p ≤ n)
+TokenEndIn start n None = Unit {0}

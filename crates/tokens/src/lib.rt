@@ -8,15 +8,6 @@ ghost use Rattle.std.specs.Prelude.{◌≡◌, ◌+◌, ◌≤◌, min, length, 
 ghost use Rattle.tokens.specs.TokenRests.{string_rest, comment_rest};
 ghost use Rattle.tokens.specs.Answer.{from_byte, heads_with, told_token_end, TokenEndIn};
 
-use lex::TextEnd;
-
-// Where something ends, or that it never does.
-#[derive(Clone, Copy)]
-pub enum TokenEnd {
-    At(usize),
-    Never,
-}
-
 // The first place from `start` on that has the byte b, or the length.
 pub fn find_byte(s: &[u8], start: usize, b: u8) -> usize
     ensures s_value { drop result s.now ≡ from_byte b (drop start s.now) }
@@ -36,18 +27,15 @@ pub fn is_at(s: &[u8], i: usize, b: u8) -> bool
 }
 
 // Where the string ends whose first quote stands before `start`: at the first quote that is not one of a pair.
-pub fn string_end(s: &[u8], start: usize) -> TokenEnd
+pub fn string_end(s: &[u8], start: usize) -> Option<usize>
     ensures result_value { told_token_end s.now result ≡ string_rest (drop start s.now) }
     ensures token_end_in { TokenEndIn start (length s.now) result }
 {
-    match lex::text_end(s, start) {
-        TextEnd::After(next) => TokenEnd::At(next),
-        TextEnd::Never => TokenEnd::Never,
-    }
+    lex::text_end(s, start)
 }
 
 // Where the comment ends whose `/*` stands before `start`: after the first `*/`.
-pub fn comment_end(s: &[u8], start: usize) -> TokenEnd
+pub fn comment_end(s: &[u8], start: usize) -> Option<usize>
     ensures result_value { told_token_end s.now result ≡ comment_rest (drop start s.now) }
     ensures token_end_in { TokenEndIn start (length s.now) result }
 {
@@ -55,10 +43,10 @@ pub fn comment_end(s: &[u8], start: usize) -> TokenEnd
     loop {
         let q = find_byte(s, i, b'*');
         if q == s.len() {
-            return TokenEnd::Never;
+            return None;
         }
         if is_at(s, q + 1, b'/') {
-            return TokenEnd::At(q + 2);
+            return Some(q + 2);
         }
         i = q + 1;
     }

@@ -11,6 +11,7 @@ use lib.ListN.{drop}
 use mathlib.Core.Path.{refl, sym, ◌∙◌, ap}
 use Prim.Native.Nat.{ℕ}
 use native.Mathlib.Omega.{arith}
+use Rattle.std.proofs.lemmas.Result.{err_from_is_err_and}
 use Rattle.lex.proofs.find_record_end.Goals as goal
 
 pub overflow_add-near : goal.overflow_add-near
@@ -37,20 +38,20 @@ returns-then-s-i-eq59 c = let l = c.loop-i in
     (seek_halts_at semicolon (missed 5 (drop c.within-from.result s)) s l.i (omega arith) Plain 0 l.i _ refl (simp (eq-eqb _ _ c.if-s-i-eq59.true)) l.invariant.1)
 
 pub loop-i-smaller : goal.loop-i-smaller
-loop-i-smaller c = let e = rw c.in-At.is at c.past.ensures in
+loop-i-smaller c = let e = c.in_ok-i.ensures in
     let l = c.loop-i in bytes_less _ l.i l.near _ (omega arith) e.0 e.1
 
 pub loop-i-preserved : goal.loop-i-preserved
 loop-i-preserved c = let l = c.loop-i in
     let s = c.args.s.now in
-    let e = rw c.in-At.is at c.past.ensures in
+    let e = c.in_ok-i.ensures in
     (omega (arith, e.1), sym (e.2 semicolon 5 (drop c.within-from.result s) 0 0 (simp (ne_eqb _ _ c.if-s-i-eq59.false))) ∙ l.invariant.1)
 
-pub returns-in-Refused : goal.returns-in-Refused
-returns-in-Refused c = let l = c.loop-i in
+pub returns-in_err-i : goal.returns-in_err-i
+returns-in_err-i c = let l = c.loop-i in
     let s = c.args.s.now in
-    let e = rw c.in-Refused.is at c.past.ensures in
-    sym (e semicolon 5 (drop c.within-from.result s) 0 0 (simp (ne_eqb _ _ c.if-s-i-eq59.false))) ∙ ap (placed s) l.invariant.1
+    let p = err_from_is_err_and c.from_residual.result c.from_residual.ensures.1 in
+    rw (p.1, p.2) (sym (c.in_err-i.ensures semicolon 5 (drop c.within-from.result s) 0 0 (simp (ne_eqb _ _ c.if-s-i-eq59.false))) ∙ ap (placed s) l.invariant.1)
 
 pub returns : goal.returns
 returns c = let l = c.loop-i in

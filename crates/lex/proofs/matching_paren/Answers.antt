@@ -11,6 +11,7 @@ use lib.ListN.{drop, get_or}
 use mathlib.Core.Path.{◌≡◌, refl, sym, ◌∙◌, ap}
 use Prim.Native.Nat.{ℕ, ◌+◌}
 use native.Mathlib.Omega.{arith}
+use Rattle.std.proofs.lemmas.Result.{err_from_is_err_and}
 use Rattle.lex.proofs.matching_paren.Goals as goal
 
 pub overflow_add-from : goal.overflow_add-from
@@ -49,22 +50,22 @@ returns-in_default c = let l = c.loop-i in
     (seek_halts_at paren (missed 6 (drop c.within-from.result s)) s l.i (omega arith) Plain l.depth l.i _ refl
     (sym c.depth_after.ensures ∙ ap look_of c.in_default.is) l.invariant.1)
 
-pub returns-in-Refused : goal.returns-in-Refused
-returns-in-Refused c = let l = c.loop-i in
+pub returns-in_err-i : goal.returns-in_err-i
+returns-in_err-i c = let l = c.loop-i in
     let s = c.args.s.now in
-    let e = rw c.in-Refused.is at c.past.ensures in
-    let k = sym c.depth_after.ensures ∙ ap look_of c.in-Open.is in
-    sym (e paren 6 (drop c.within-from.result s) l.depth _ k) ∙ ap (placed s) l.invariant.1
+    let k = sym c.depth_after.ensures ∙ ap look_of c.in-Some.is in
+    let p = err_from_is_err_and c.from_residual.result c.from_residual.ensures.1 in
+    rw (p.1, p.2) (sym (c.in_err-i.ensures paren 6 (drop c.within-from.result s) l.depth _ k) ∙ ap (placed s) l.invariant.1)
 
 pub loop-i-smaller : goal.loop-i-smaller
-loop-i-smaller c = let e = rw c.in-At.is at c.past.ensures in
+loop-i-smaller c = let e = c.in_ok-i.ensures in
     let l = c.loop-i in bytes_less _ l.i l.near _ (omega arith) e.0 e.1
 
 pub loop-i-preserved : goal.loop-i-preserved
 loop-i-preserved c = let l = c.loop-i in
     let s = c.args.s.now in
-    let e = rw c.in-At.is at c.past.ensures in
-    let k = sym c.depth_after.ensures ∙ ap look_of c.in-Open.is in
+    let e = c.in_ok-i.ensures in
+    let k = sym c.depth_after.ensures ∙ ap look_of c.in-Some.is in
     let up = paren_up l.depth (get_or s l.i 0) _ k in
     ((omega (arith, e.1), omega (arith, e.0, up)), sym (e.2 paren 6 (drop c.within-from.result s) l.depth _ k) ∙ l.invariant.1)
 

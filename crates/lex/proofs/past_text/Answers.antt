@@ -1,17 +1,15 @@
-use Rattle.lex.specs.PassedAtOnce.{text_left, text_stays}
+use Rattle.lex.specs.PassedAtOnce.{LeavesOrRefused, text_left, text_stays}
 use Rattle.lex.specs.Answer.{TextEnds}
-use Prim.Native.Nat.{◌+◌}
-use mathlib.Core.Path.{subst}
-use native.Mathlib.Omega.{arith}
+use Rattle.error.specs.declared.Fault.TheVariants.{OpenString}
+use Rattle.lex.specs.declared.Mode.TheVariants.{Text}
+use Rattle.std.specs.Option.{ok_or}
+use Rattle.std.proofs.Common.{List, ℕ, ◌+◌, ◌<◌, Option, Some, None, length, arith}
 use Rattle.lex.proofs.past_text.Goals as goal
 
-pub returns-in-After : goal.returns-in-After
-returns-in-After c = let a = c.args in
-    let s = a.s.now in
-    let e = subst (λ r. TextEnds s (a.q + 1) r) c.in-After.is c.text_end.ensures in
-    (omega (arith, e.0), e.1, text_left s a.q (a.q + 1) c.in-After.next e.2)
+-- what a string's end says of a search that reads the string
+left : (s : List ℕ) (q : ℕ) → q < length s → (r : Option ℕ) → TextEnds s (q + 1) r → LeavesOrRefused s Text q (q + 1) (ok_or r (OpenString q))
+left s q h (Some p) (a, b, t) = (omega arith, b, text_left s q (q + 1) p t)
+left s q h None t = text_stays s q (q + 1) (omega arith) t
 
-pub returns-in-Never : goal.returns-in-Never
-returns-in-Never c = let a = c.args in
-    let s = a.s.now in
-    text_stays s a.q (a.q + 1) (omega arith) (subst (λ r. TextEnds s (a.q + 1) r) c.in-Never.is c.text_end.ensures)
+pub returns : goal.returns
+returns c = let a = c.args in rw c.ok_or.ensures.value (left a.s.now a.q c.requires c.text_end.result c.text_end.ensures)

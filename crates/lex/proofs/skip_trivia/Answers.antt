@@ -8,6 +8,7 @@ use lib.ListN.{length, drop}
 use mathlib.Core.Path.{◌≡◌, sym, ◌∙◌, ap}
 use Prim.Native.Nat.{ℕ, ◌-◌}
 use native.Mathlib.Omega.{arith}
+use Rattle.std.proofs.lemmas.Result.{err_from_is_err_and}
 use Rattle.lex.proofs.skip_trivia.Goals as goal
 
 pub loop-i-init : goal.loop-i-init
@@ -38,22 +39,23 @@ pub loop-i-smaller : goal.loop-i-smaller
 loop-i-smaller c = let s = c.args.s.now in
     let l = c.loop-i in
     let k = c.is_at.ensures.here c.if-not-is_at.false in
-    let e = rw c.in-At.is at (trivia_remark s l.i (omega arith) c.if-c-ne47.false k.0 k.1 c.past_remark.result c.past_remark.ensures) in
+    let e = rw c.in_ok-i.was at (trivia_remark s l.i (omega arith) c.if-c-ne47.false k.0 k.1 c.past_remark.result c.past_remark.ensures) in
     omega (arith, e.0, e.1)
 
 pub loop-i-preserved : goal.loop-i-preserved
 loop-i-preserved c = let s = c.args.s.now in
     let l = c.loop-i in
     let k = c.is_at.ensures.here c.if-not-is_at.false in
-    let e = rw c.in-At.is at (trivia_remark s l.i (omega arith) c.if-c-ne47.false k.0 k.1 c.past_remark.result c.past_remark.ensures) in
+    let e = rw c.in_ok-i.was at (trivia_remark s l.i (omega arith) c.if-c-ne47.false k.0 k.1 c.past_remark.result c.past_remark.ensures) in
     (omega (arith, e.1), sym e.2 ∙ l.invariant.1)
 
-pub returns-in-Refused : goal.returns-in-Refused
-returns-in-Refused c = let s = c.args.s.now in
+pub returns-in_err-i : goal.returns-in_err-i
+returns-in_err-i c = let s = c.args.s.now in
     let l = c.loop-i in
     let k = c.is_at.ensures.here c.if-not-is_at.false in
-    let e = rw c.in-Refused.is at (trivia_remark s l.i (omega arith) c.if-c-ne47.false k.0 k.1 c.past_remark.result c.past_remark.ensures) in
-    sym e ∙ ap (placed s) l.invariant.1
+    let e = rw c.in_err-i.was at (trivia_remark s l.i (omega arith) c.if-c-ne47.false k.0 k.1 c.past_remark.result c.past_remark.ensures) in
+    let p = err_from_is_err_and c.from_residual.result c.from_residual.ensures.1 in
+    rw (p.1, p.2) (sym e ∙ ap (placed s) l.invariant.1)
 
 pub returns : goal.returns
 returns c = let s = c.args.s.now in
