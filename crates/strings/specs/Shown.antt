@@ -1,6 +1,6 @@
 -- What an auditor wants to know of a text: every number in it is a character, so that none is lost; it is valid UTF-8 (RFC 3629); a
 -- plain string is its own text; and what `decode_string` and `text` show is the text. Assumes nothing.
-use Rattle.std.specs.Prelude.{ℕ, zero, suc, ◌+◌, ◌*◌, ◌-◌, ◌≤◌, ◌<◌, ◌≡◌, refl, Bool, true, false, ◌&&◌, ◌||◌, List, [], ◌∷◌, ◌++◌, eqb, leb, ltb, length, take, drop}
+use Rattle.std.specs.Prelude.{ℕ, zero, suc, ◌+◌, ◌*◌, ◌-◌, ◌≤◌, ◌<◌, ◌≡◌, refl, Bool, true, false, ◌&&◌, ◌||◌, List, [], ◌∷◌, ◌++◌, eqb, leb, ltb, length, take, drop, Option, Some, None}
 use Rattle.std.proofs.Common.{sym, ◌∙◌, ap, append-nil, arith, ltb-true, le-ltb, le-leb, drop_of_length-le, take_all}
 use Rattle.std.proofs.Math.Seq.{take-append_seam}
 use Rattle.common.specs.Pick.{pick}
@@ -12,7 +12,7 @@ use Rattle.utf8.specs.Laws.{scalar_low}
 use Rattle.utf8.specs.Rfc3629.{Valid}
 use Rattle.utf8.specs.Agree.{Scalars, all_valid, lead_is}
 use Rattle.strings.specs.declared.Decoded.{Decoded}
-use Rattle.strings.specs.declared.Decoded.TheVariants.{Plain, Written, Short}
+use Rattle.strings.specs.declared.Decoded.TheVariants.{Plain, Written}
 use Rattle.pages.specs.Rules.{page_a}
 use Rattle.pages.specs.Right.{code_scalar}
 use Rattle.strings.specs.Text
@@ -169,25 +169,25 @@ plain_text s h =
     bytes_plain (length s) s (omega arith) (rw e h) ∙ rw (e, past s, none_text) (append-nil s)
 
 -- what is shown after `decode_string`: the text, unless it is 16
-pub shown_text : (s o : List ℕ) → (decoded_of s (length o) ≡ Short → ⊥) → shown_of s (room_after s o) (decoded_of s (length o)) ≡ Text.bytes_of s
+pub shown_text : (s o : List ℕ) → (decoded_of s (length o) ≡ None → ⊥) → shown_of s (room_after s o) (decoded_of s (length o)) ≡ Text.bytes_of s
 shown_text s o n = go (Text.plain s) (leb (length (Text.bytes_of s)) (length o)) refl n
   where
-    go : (t u : Bool) → Text.plain s ≡ t → (pick t Plain (pick u (Written (length (Text.bytes_of s))) Short) ≡ Short → ⊥)
-        → shown_of s (pick t o (pick u (Text.bytes_of s ++ drop (length (Text.bytes_of s)) o) o)) (pick t Plain (pick u (Written (length (Text.bytes_of s))) Short)) ≡ Text.bytes_of s
+    go : (t u : Bool) → Text.plain s ≡ t → (pick t (Some Plain) (pick u (Some (Written (length (Text.bytes_of s)))) None) ≡ None → ⊥)
+        → shown_of s (pick t o (pick u (Text.bytes_of s ++ drop (length (Text.bytes_of s)) o) o)) (pick t (Some Plain) (pick u (Some (Written (length (Text.bytes_of s)))) None)) ≡ Text.bytes_of s
     go true u e k = sym (plain_text s e)
     go false true e k = take-append_seam (Text.bytes_of s) (drop (length (Text.bytes_of s)) o)
     go false false e k = absurd (k refl)
 
 -- what is shown after `decode_string` is valid UTF-8, unless it is 16
-pub shown_valid : (s o : List ℕ) → Bytes s → (decoded_of s (length o) ≡ Short → ⊥) → Valid (shown_of s (room_after s o) (decoded_of s (length o)))
+pub shown_valid : (s o : List ℕ) → Bytes s → (decoded_of s (length o) ≡ None → ⊥) → Valid (shown_of s (room_after s o) (decoded_of s (length o)))
 shown_valid s o h n = rw (shown_text s o n) (text_valid s h)
 
 -- an answer of `decode_string`, with the room that it leaves, tells the text or 16
-pub told_text_lem : (s o p : List ℕ) (d : Decoded) → d ≡ decoded_of s (length o) → p ≡ room_after s o → told_text s p d ≡ answer_of s (length o)
+pub told_text_lem : (s o p : List ℕ) (d : Option Decoded) → d ≡ decoded_of s (length o) → p ≡ room_after s o → told_text s p d ≡ answer_of s (length o)
 told_text_lem s o p d e f = rw (e, f) (go (Text.plain s) (leb (length (Text.bytes_of s)) (length o)) refl)
   where
     go : (t u : Bool) → Text.plain s ≡ t
-        → told_text s (pick t o (pick u (Text.bytes_of s ++ drop (length (Text.bytes_of s)) o) o)) (pick t Plain (pick u (Written (length (Text.bytes_of s))) Short)) ≡ pick (t || u) (text_is (Text.bytes_of s)) (text_refused 16)
+        → told_text s (pick t o (pick u (Text.bytes_of s ++ drop (length (Text.bytes_of s)) o) o)) (pick t (Some Plain) (pick u (Some (Written (length (Text.bytes_of s)))) None)) ≡ pick (t || u) (text_is (Text.bytes_of s)) (text_refused 16)
     go true u e = ap text_is (sym (plain_text s e))
     go false true e = ap text_is (take-append_seam (Text.bytes_of s) (drop (length (Text.bytes_of s)) o))
     go false false e = refl

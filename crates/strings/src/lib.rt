@@ -548,12 +548,11 @@ fn run(raw: &[u8], n: usize, out: &mut [u8]) -> usize
     turns(&raw[n..], out, at)
 }
 
-// Where a string's text is: it is the string's bytes, or so many bytes of the lent room; or the room is too short.
+// Where a string's text is: it is the string's bytes, or so many bytes of the lent room.
 #[derive(Clone, Copy)]
 pub enum Decoded {
     Plain,
     Written(usize),
-    Short,
 }
 
 // How many bytes the text has; the largest number for a text that no memory holds.
@@ -576,44 +575,35 @@ fn first_plain(s: &[u8]) -> usize
     plain_len(s)
 }
 
-// Finds a string's text, and writes it where it is not the string itself and fits.
-pub fn decode_string(raw: &[u8], out: &mut [u8]) -> Decoded
+// Finds a string's text, and writes it where it is not the string itself and fits; none where the room is too short.
+pub fn decode_string(raw: &[u8], out: &mut [u8]) -> Option<Decoded>
     ensures value { result ≡ decoded_of raw.now (length out.old) }
     ensures out_after { out.new ≡ room_after raw.now out.old }
     ensures result_after { told_text raw.now out.new result ≡ answer_of raw.now (length out.old) }
 {
     let p = first_plain(raw);
     if p == raw.len() {
-        return Decoded::Plain;
+        return Some(Decoded::Plain);
     }
     if raw.len() <= out.len() / 2 {
         let n = run(raw, p, out);
-        return Decoded::Written(n);
+        return Some(Decoded::Written(n));
     }
     let n = text_length(raw);
     if out.len() < n {
-        return Decoded::Short;
+        return None;
     }
     run(raw, p, out);
-    Decoded::Written(n)
+    Some(Decoded::Written(n))
 }
 
 // The text itself: a part of the file or a part of the room.
-pub fn text<'a>(raw: &'a [u8], out: &'a [u8], answer: Decoded) -> &'a [u8]
+pub fn text<'a>(raw: &'a [u8], out: &'a [u8], answer: Option<Decoded>) -> &'a [u8]
     ensures { result.now ≡ shown_of raw.now out.now answer }
 {
     match answer {
-        Decoded::Plain => {
-            return raw;
-        }
-        Decoded::Written(n) => {
-            if n <= out.len() {
-                return &out[..n];
-            }
-            return out;
-        }
-        Decoded::Short => {
-            return &out[..0];
-        }
+        Some(Decoded::Plain) => raw,
+        Some(Decoded::Written(n)) => &out[..n.min(out.len())],
+        None => &out[..0],
     }
 }
