@@ -5,11 +5,9 @@ pub mod Lookup
 pub mod IndexLaws
 pub mod Index
 pub mod Sort
-pub mod Answer
 pub mod Search
 pub mod Laws
 pub mod IndexRight
 pub mod Guide
 pub mod SearchRight
 pub mod LookCount
-pub mod Only

@@ -1,8 +1,7 @@
 -- Lookup of an id, over rows that have ids: `f` gives the id of each row, and there are n rows, in file order.
 -- Assumes nothing.
-use Rattle.std.specs.Prelude.{ℕ, zero, suc, ◌<◌, ◌≡◌, refl, Bool, true, false, ◌⊎◌, eqb}
+use Rattle.std.specs.Prelude.{ℕ, zero, suc, ◌<◌, ◌≡◌, refl, Bool, true, false, ◌⊎◌, eqb, Option, Some, None}
 use Rattle.std.proofs.Common.{sym, ◌∙◌, ap, inl, inr, ⊎_elim, arith, eqb-true}
-use Rattle.std.proofs.Math.Option.{Option, none, some}
 use Rattle.std.proofs.lemmas.Bool.{eqb-false}
 use Rattle.common.specs.Pick.{pick}
 use Rattle.common.specs.Compare.{ordered}
@@ -14,11 +13,11 @@ Map = ℕ → Option ℕ
 
 -- a map that row r is written to under the id i: it has r for i, and for every other id what it had
 abbrev pub map_with : ℕ → ℕ → Map → Map
-map_with i r m k = pick (eqb i k) (some r) (m k)
+map_with i r m k = pick (eqb i k) (Some r) (m k)
 
 -- "a map written to in file order": the map after the first n rows
 unfoldable pub written_map : (ℕ → ℕ) → ℕ → Map
-written_map f zero k = none
+written_map f zero k = None
 written_map f (suc n) k = map_with (f n) n (written_map f n) k
 
 -- "Lookup of an id answers like a map written to in file order": the row of an id among n rows
@@ -40,8 +39,8 @@ written_here f n k e = record { row = omega arith; named = e; last = λ j a b z.
 
 -- a row of another id, written last, changes no answer of the map
 written_past : (f : ℕ → ℕ) (n k : ℕ) (o : Option ℕ) → (f n ≡ k → ⊥) → LookupForm f n k o → LookupForm f (suc n) k o
-written_past f n k none d h = λ j b z. ⊎_elim (λ l. h j l z) (λ e. d (ap f (sym e) ∙ z)) (cut j n b)
-written_past f n k (some r) d h =
+written_past f n k None d h = λ j b z. ⊎_elim (λ l. h j l z) (λ e. d (ap f (sym e) ∙ z)) (cut j n b)
+written_past f n k (Some r) d h =
     let row : r < n = h.row in
     record { row = omega arith; named = h.named; last = λ j a b z. ⊎_elim (λ l. h.last j a l z) (λ e. d (ap f (sym e) ∙ z)) (cut j n b) }
 
@@ -51,7 +50,7 @@ unfolding written_map
 lookup_is f zero k = λ j b z. absurd (omega arith)
 lookup_is f (suc n) k = go (eqb (f n) k) refl (lookup_is f n k)
   where
-    go : (t : Bool) → eqb (f n) k ≡ t → LookupForm f n k (written_map f n k) → LookupForm f (suc n) k (pick t (some n) (written_map f n k))
+    go : (t : Bool) → eqb (f n) k ≡ t → LookupForm f n k (written_map f n k) → LookupForm f (suc n) k (pick t (Some n) (written_map f n k))
     go true e h = written_here f n k (eqb-true (f n) k e)
     go false e h = written_past f n k (written_map f n k) (eqb-false (f n) k e) h
 
@@ -66,10 +65,10 @@ last_one f n k a b h g = go (ordered a b)
 
 -- a lookup has only one answer by the rules
 pub lookup_one : (f : ℕ → ℕ) (n k : ℕ) (a b : Option ℕ) → LookupForm f n k a → LookupForm f n k b → a ≡ b
-lookup_one f n k none none h g = refl
-lookup_one f n k none (some b) h g = absurd (h b g.row g.named)
-lookup_one f n k (some a) none h g = absurd (g a h.row h.named)
-lookup_one f n k (some a) (some b) h g = ap some (last_one f n k a b h g)
+lookup_one f n k None None h g = refl
+lookup_one f n k None (Some b) h g = absurd (h b g.row g.named)
+lookup_one f n k (Some a) None h g = absurd (g a h.row h.named)
+lookup_one f n k (Some a) (Some b) h g = ap Some (last_one f n k a b h g)
 
 -- an answer to a lookup by the rules is what the map has
 pub lookup_only : (f : ℕ → ℕ) (n k : ℕ) (o : Option ℕ) → LookupForm f n k o → lookup_of f n k ≡ o

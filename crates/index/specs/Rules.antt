@@ -2,8 +2,7 @@
 -- `f` gives the id of each row, and there are n rows, in file order.
 -- Assumes nothing.
 -- Definitions to be believed: no law, and nothing computed that no theorem ties (docs/BELIEVE.md).
-use Rattle.std.specs.Prelude.{ℕ, ◌<◌, ◌≡◌}
-use Rattle.std.proofs.Math.Option.{Option, none, some}
+use Rattle.std.specs.Prelude.{ℕ, ◌<◌, ◌≡◌, Option, Some, None}
 
 -- "the last record of that id": a row of the table, with that id, and no later row has it
 pub record IsLast (f : ℕ → ℕ) (n k r : ℕ) : Type 0 where
@@ -17,5 +16,5 @@ Missing f n k = (j : ℕ) → j < n → f j ≡ k → ⊥
 
 -- what a lookup answers, without a loop: the last record of that id, or that there is none
 abbrev pub LookupForm : (ℕ → ℕ) → ℕ → ℕ → Option ℕ → Type 0
-LookupForm f n k none = Missing f n k
-LookupForm f n k (some r) = IsLast f n k r
+LookupForm f n k None = Missing f n k
+LookupForm f n k (Some r) = IsLast f n k r

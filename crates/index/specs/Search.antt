@@ -1,7 +1,6 @@
 -- The search in the slots. It is fixed for any slots, what they hold being the index or not.
 -- Assumes nothing.
-use Rattle.std.specs.Prelude.{ℕ, zero, suc, ◌+◌, ◌-◌, ◌*◌, ◌/◌, ◌%◌, ◌^◌, min, max, Bool, ◌&&◌, List, ltb, leb, eqb, length, get_or}
-use Rattle.std.proofs.Math.Option.{Option, none, some}
+use Rattle.std.specs.Prelude.{ℕ, zero, suc, ◌+◌, ◌-◌, ◌*◌, ◌/◌, ◌%◌, ◌^◌, min, max, Bool, ◌&&◌, List, ltb, leb, eqb, length, get_or, Option, Some, None}
 use Rattle.common.specs.Pick.{pick}
 use Rattle.common.specs.Walk.{Turn, stop, on, turned}
 use Rattle.table.specs.Table.{id_of, rows_fit}
@@ -110,7 +109,7 @@ row_has_id f n r k = ltb r n && eqb (f r) k
 
 -- the row before an end, where the table has it and its id is the one sought
 abbrev pub served_of : (ℕ → ℕ) → List ℕ → Bool → ℕ → ℕ → ℕ → Option ℕ
-served_of f slots direct n k e = pick (eqb e 0) none (pick (row_has_id f n (slot_row direct slots (e - 1)) k) (some (slot_row direct slots (e - 1))) none)
+served_of f slots direct n k e = pick (eqb e 0) None (pick (row_has_id f n (slot_row direct slots (e - 1)) k) (Some (slot_row direct slots (e - 1))) None)
 
 -- what the search through brackets answers, of R rows whose ids f tells
 abbrev pub sought_in : (ℕ → ℕ) → ℕ → List ℕ → Ids → ℕ → Option ℕ
@@ -128,7 +127,7 @@ first_row slots b k = pick (ltb k b.first) 4294967295 (pick (b.distinct && eqb b
 -- sought
 abbrev pub search_in : (ℕ → ℕ) → ℕ → List ℕ → Ids → ℕ → Option ℕ
 search_in f R slots b k =
-    pick (row_has_id f (table_room R (length slots) b.count) (first_row slots b k) k) (some (first_row slots b k)) (sought_in f R slots b k)
+    pick (row_has_id f (table_room R (length slots) b.count) (first_row slots b k) k) (Some (first_row slots b k)) (sought_in f R slots b k)
 
 -- the search through brackets, of a table in lent memory
 abbrev pub sought_in_slots : List ℕ → List ℕ → Ids → ℕ → Option ℕ

@@ -1,9 +1,8 @@
 -- The search gives the map's answer, for the slots and the numbers that `build` leaves; and for any others what it serves lies in
 -- the table and has the id. Assumes nothing.
 use Prim.Native.Nat.{ℕ, zero, suc, ◌+◌, ◌-◌, ◌*◌, ◌/◌, ◌%◌, ◌^◌, ◌≤◌, ◌<◌, min, max}
-use Rattle.std.specs.Prelude.{◌≡◌, refl, Bool, true, false, ◌&&◌, List, ◌⊎◌, ltb, leb, eqb, length, get_or}
+use Rattle.std.specs.Prelude.{◌≡◌, refl, Bool, true, false, ◌&&◌, List, ◌⊎◌, ltb, leb, eqb, length, get_or, Some, None}
 use Rattle.std.proofs.Common.{sym, ◌∙◌, ap, subst, inl, inr, arith, mod-eq_of_lt, mul-le-mul_right, div-mul-le_self, add-mul, ltb-true, ltb-false, leb-true, leb-false, eqb-true, le-ltb, eq-eqb, ne_eqb}
-use Rattle.std.proofs.Math.Option.{none, some}
 use Rattle.std.proofs.Math.Nat.{lt-div-mul-add}
 use Rattle.std.proofs.lemmas.Bool.{eqb-false}
 use Rattle.common.specs.Pick.{pick}
@@ -326,17 +325,17 @@ module _ (k : ℕ) (distinct : Bool) (g : ℕ → ℕ) (n : ℕ)
 
 module _ (f : ℕ → ℕ) (slots : List ℕ) (direct : Bool) (n k : ℕ) where
   -- a row that is served lies in the table and has the id, whatever the slots hold
-  pub served_safe : (e r : ℕ) → served_of f slots direct n k e ≡ some r → (r < n) × (f r ≡ k)
+  pub served_safe : (e r : ℕ) → served_of f slots direct n k e ≡ Some r → (r < n) × (f r ≡ k)
   served_safe e r = go (eqb e 0)
     where
-      at_row : (s t : Bool) → ltb (slot_row direct slots (e - 1)) n ≡ s → eqb (f (slot_row direct slots (e - 1))) k ≡ t → pick (s && t) (some (slot_row direct slots (e - 1))) none ≡ some r → (r < n) × (f r ≡ k)
+      at_row : (s t : Bool) → ltb (slot_row direct slots (e - 1)) n ≡ s → eqb (f (slot_row direct slots (e - 1))) k ≡ t → pick (s && t) (Some (slot_row direct slots (e - 1))) None ≡ Some r → (r < n) × (f r ≡ k)
       at_row true true a b d =
           let q : slot_row direct slots (e - 1) ≡ r = cc in
           (subst (λ (z : ℕ). z < n) q (ltb-true (slot_row direct slots (e - 1)) n a), subst (λ (z : ℕ). f z ≡ k) q (eqb-true (f (slot_row direct slots (e - 1))) k b))
       at_row true false a b d = let z : ◌≡◌ {A = ℕ} 0 1 = cc in absurd (omega arith)
       at_row false t a b d = let z : ◌≡◌ {A = ℕ} 0 1 = cc in absurd (omega arith)
 
-      go : (t : Bool) → pick t none (pick (ltb (slot_row direct slots (e - 1)) n && eqb (f (slot_row direct slots (e - 1))) k) (some (slot_row direct slots (e - 1))) none) ≡ some r → (r < n) × (f r ≡ k)
+      go : (t : Bool) → pick t None (pick (ltb (slot_row direct slots (e - 1)) n && eqb (f (slot_row direct slots (e - 1))) k) (Some (slot_row direct slots (e - 1))) None) ≡ Some r → (r < n) × (f r ≡ k)
       go true d = let z : ◌≡◌ {A = ℕ} 0 1 = cc in absurd (omega arith)
       go false d = at_row (ltb (slot_row direct slots (e - 1)) n) (eqb (f (slot_row direct slots (e - 1))) k) refl refl d
 
@@ -412,7 +411,7 @@ module _ (f : ℕ → ℕ) (slots : List ℕ) (direct : Bool) (n k : ℕ) where
         y : e ≤ n
         y = w.inside
 
-        at_row : 0 < e → (s t : Bool) → ltb (slot_row direct slots (e - 1)) n ≡ s → eqb (f (slot_row direct slots (e - 1))) k ≡ t → LookupForm f n k (pick (s && t) (some (slot_row direct slots (e - 1))) none)
+        at_row : 0 < e → (s t : Bool) → ltb (slot_row direct slots (e - 1)) n ≡ s → eqb (f (slot_row direct slots (e - 1))) k ≡ t → LookupForm f n k (pick (s && t) (Some (slot_row direct slots (e - 1))) None)
         at_row h true true a b =
             served_last h (eqb-true (f (slot_row direct slots (e - 1))) k b)
         at_row h true false a b =
@@ -422,15 +421,15 @@ module _ (f : ℕ → ℕ) (slots : List ℕ) (direct : Bool) (n k : ℕ) where
             let v = x.rows (e - 1) (omega (arith, y, h)) in
             absurd (omega (arith, o, v))
 
-        go : (t : Bool) → eqb e 0 ≡ t → LookupForm f n k (pick t none (pick (ltb (slot_row direct slots (e - 1)) n && eqb (f (slot_row direct slots (e - 1))) k) (some (slot_row direct slots (e - 1))) none))
+        go : (t : Bool) → eqb e 0 ≡ t → LookupForm f n k (pick t None (pick (ltb (slot_row direct slots (e - 1)) n && eqb (f (slot_row direct slots (e - 1))) k) (Some (slot_row direct slots (e - 1))) None))
         go true d = let q : e ≡ 0 = eqb-true e 0 d in served_missing (λ h _. omega arith)
         go false d = let q = eqb-false e 0 d in at_row (omega arith) (ltb (slot_row direct slots (e - 1)) n) (eqb (f (slot_row direct slots (e - 1))) k) refl refl
 
 -- a table of no rows serves none
-served_none : (f : ℕ → ℕ) (slots : List ℕ) (direct : Bool) (k e : ℕ) → served_of f slots direct 0 k e ≡ none
+served_none : (f : ℕ → ℕ) (slots : List ℕ) (direct : Bool) (k e : ℕ) → served_of f slots direct 0 k e ≡ None
 served_none f slots direct k e = go (eqb e 0)
   where
-    go : (t : Bool) → pick t none (pick (ltb (slot_row direct slots (e - 1)) 0 && eqb (f (slot_row direct slots (e - 1))) k) (some (slot_row direct slots (e - 1))) none) ≡ none
+    go : (t : Bool) → pick t None (pick (ltb (slot_row direct slots (e - 1)) 0 && eqb (f (slot_row direct slots (e - 1))) k) (Some (slot_row direct slots (e - 1))) None) ≡ None
     go true = refl
     go false = rw (le-ltb (slot_row direct slots (e - 1)) 0 (omega arith)) refl
 
@@ -505,8 +504,8 @@ built_right f old slots n k b m h = go (less_or 0 n)
     go (inl l) = sym (lookup_only f n k (served_of f slots b.direct n k (end_of k b slots g n)) (served_right f slots b.direct n k s same (end_of k b slots g n) (ends l)))
     go (inr l) = let q : n ≡ 0 = omega arith in subst (λ (z : ℕ). served_of f slots b.direct z k (end_of k b slots g n) ≡ lookup_of f z k) (sym q) (served_none f slots b.direct k (end_of k b slots g n) ∙ empty f k)
       where
-        empty : (e : ℕ → ℕ) (j : ℕ) → none ≡ lookup_of e 0 j
-        empty e j = sym (lookup_only e 0 j none (λ r u v. absurd (omega arith)))
+        empty : (e : ℕ → ℕ) (j : ℕ) → None ≡ lookup_of e 0 j
+        empty e j = sym (lookup_only e 0 j None (λ r u v. absurd (omega arith)))
 
 -- where no id stands twice, rows of one id are one row
 one_row : (f : ℕ → ℕ) (n : ℕ) (old slots : List ℕ) (b : Ids) → n ≤ 1073741824 → Built f n old slots b → b.distinct ≡ true → (i j : ℕ) → i < n → j < n → f i ≡ f j → i ≡ j
@@ -542,8 +541,8 @@ one_row f n old slots b m h d i j a c e = go (s.whole i a) (s.whole j c)
         by (inr (inr l)) = let o = strict q.slot p.slot l p.inside in absurd (omega (arith, o, same))
 
 -- the row that is looked at first, where it has the id, is the one that the map has
-first_right : (f : ℕ → ℕ) (old slots : List ℕ) (n k : ℕ) (b : Ids) → n ≤ 1073741824 → Built f n old slots b → first_row slots b k < n → f (first_row slots b k) ≡ k → some (first_row slots b k) ≡ lookup_of f n k
-first_right f old slots n k b m h l e = sym (lookup_only f n k (some (first_row slots b k)) (record { row = l; named = e; last = λ j a c d. let q = one_row f n old slots b m h single (first_row slots b k) j l c (e ∙ sym d) in omega arith }))
+first_right : (f : ℕ → ℕ) (old slots : List ℕ) (n k : ℕ) (b : Ids) → n ≤ 1073741824 → Built f n old slots b → first_row slots b k < n → f (first_row slots b k) ≡ k → Some (first_row slots b k) ≡ lookup_of f n k
+first_right f old slots n k b m h l e = sym (lookup_only f n k (Some (first_row slots b k)) (record { row = l; named = e; last = λ j a c d. let q = one_row f n old slots b m h single (first_row slots b k) j l c (e ∙ sym d) in omega arith }))
   where
     single : b.distinct ≡ true
     single = go (ltb k b.first) b.distinct (eqb b.shift 0) refl refl refl
@@ -572,22 +571,22 @@ get_right f R old slots count k b h = go (ltb (first_row slots b k) m) (eqb (f (
     found : sought_in f R slots b k ≡ lookup_of f n k
     found = ap (λ (z : ℕ). served_of f slots b.direct z k (end_of k b slots (slot_id f b.direct slots) z)) q ∙ built_right f old slots n k b (omega arith) h
 
-    go : (s t : Bool) → ltb (first_row slots b k) m ≡ s → eqb (f (first_row slots b k)) k ≡ t → pick (s && t) (some (first_row slots b k)) (sought_in f R slots b k) ≡ lookup_of f n k
+    go : (s t : Bool) → ltb (first_row slots b k) m ≡ s → eqb (f (first_row slots b k)) k ≡ t → pick (s && t) (Some (first_row slots b k)) (sought_in f R slots b k) ≡ lookup_of f n k
     go true true e d = first_right f old slots n k b (omega arith) h (subst (λ (z : ℕ). first_row slots b k < z) q (ltb-true (first_row slots b k) m e)) (eqb-true (f (first_row slots b k)) k d)
     go true false e d = found
     go false t e d = found
 
 -- whatever the slots and the numbers beside them, what is served lies in the table and has the id
-pub get_safe : (f : ℕ → ℕ) (R : ℕ) (slots : List ℕ) (b : Ids) (k r : ℕ) → search_in f R slots b k ≡ some r → (r < table_room R (length slots) b.count) × (f r ≡ k)
+pub get_safe : (f : ℕ → ℕ) (R : ℕ) (slots : List ℕ) (b : Ids) (k r : ℕ) → search_in f R slots b k ≡ Some r → (r < table_room R (length slots) b.count) × (f r ≡ k)
 get_safe f R slots b k r = go (ltb (first_row slots b k) n) (eqb (f (first_row slots b k)) k) refl refl
   where
     n : ℕ
     n = table_room R (length slots) b.count
 
-    found : sought_in f R slots b k ≡ some r → (r < n) × (f r ≡ k)
+    found : sought_in f R slots b k ≡ Some r → (r < n) × (f r ≡ k)
     found e = served_safe f slots b.direct n k (end_of k b slots (slot_id f b.direct slots) n) r e
 
-    go : (s t : Bool) → ltb (first_row slots b k) n ≡ s → eqb (f (first_row slots b k)) k ≡ t → pick (s && t) (some (first_row slots b k)) (sought_in f R slots b k) ≡ some r → (r < n) × (f r ≡ k)
+    go : (s t : Bool) → ltb (first_row slots b k) n ≡ s → eqb (f (first_row slots b k)) k ≡ t → pick (s && t) (Some (first_row slots b k)) (sought_in f R slots b k) ≡ Some r → (r < n) × (f r ≡ k)
     go true true a c d =
         let q : first_row slots b k ≡ r = cc in
         (subst (λ (z : ℕ). z < n) q (ltb-true (first_row slots b k) n a), subst (λ (z : ℕ). f z ≡ k) q (eqb-true (f (first_row slots b k)) k c))
@@ -596,12 +595,12 @@ get_safe f R slots b k r = go (ltb (first_row slots b k) n) (eqb (f (first_row s
 
 module _ (f : ℕ → ℕ) (R : ℕ) (slots : List ℕ) (b : Ids) (k : ℕ) where
   -- where the row that is looked at first has the id, it is the search's answer
-  pub get_first : (r : ℕ) → r ≡ first_row slots b k → (t : Bool) → t ≡ row_has_id f (table_room R (length slots) b.count) r k → t ≡ true → some r ≡ search_in f R slots b k
-  get_first r e t q h = subst (λ (z : ℕ). some r ≡ pick (row_has_id f (table_room R (length slots) b.count) z k) (some z) (sought_in f R slots b k)) e (rw (sym q ∙ h) refl)
+  pub get_first : (r : ℕ) → r ≡ first_row slots b k → (t : Bool) → t ≡ row_has_id f (table_room R (length slots) b.count) r k → t ≡ true → Some r ≡ search_in f R slots b k
+  get_first r e t q h = subst (λ (z : ℕ). Some r ≡ pick (row_has_id f (table_room R (length slots) b.count) z k) (Some z) (sought_in f R slots b k)) e (rw (sym q ∙ h) refl)
 
   -- where the row that is looked at first has not the id, the search's answer is what is sought through brackets
   pub get_later : (r : ℕ) → r ≡ first_row slots b k → (t : Bool) → t ≡ row_has_id f (table_room R (length slots) b.count) r k → t ≡ false → sought_in f R slots b k ≡ search_in f R slots b k
-  get_later r e t q h = subst (λ (z : ℕ). sought_in f R slots b k ≡ pick (row_has_id f (table_room R (length slots) b.count) z k) (some z) (sought_in f R slots b k)) e (rw (sym q ∙ h) refl)
+  get_later r e t q h = subst (λ (z : ℕ). sought_in f R slots b k ≡ pick (row_has_id f (table_room R (length slots) b.count) z k) (Some z) (sought_in f R slots b k)) e (rw (sym q ∙ h) refl)
 
 module _ (f : ℕ → ℕ) (R : ℕ) (slots : List ℕ) (b : Ids) (k n e : ℕ) (room : n ≡ table_room R (length slots) b.count) (end : e ≡ end_of k b slots (slot_id f b.direct slots) n) where
   -- an end of the slots is at most one past 2^30, the most rows that the index speaks of
@@ -613,22 +612,22 @@ module _ (f : ℕ → ℕ) (R : ℕ) (slots : List ℕ) (b : Ids) (k n e : ℕ) 
   sought_is = ap (λ (z : ℕ). served_of f slots b.direct (table_room R (length slots) b.count) k z) (end ∙ ap (λ (z : ℕ). end_of k b slots (slot_id f b.direct slots) z) room)
 
   -- where no slot holds an id up to the one sought, none is answered
-  pub seek_none : e ≡ 0 → none ≡ sought_in f R slots b k
+  pub seek_none : e ≡ 0 → None ≡ sought_in f R slots b k
   seek_none h = sym (rw (eq-eqb e 0 h) refl) ∙ sought_is
 
   module _ (r : ℕ) (row : r ≡ slot_row b.direct slots (e - 1)) (some-slot : e ≡ 0 → ⊥) (t : Bool) (told : t ≡ row_has_id f (table_room R (length slots) b.count) r k) where
     -- the row of the last slot with an id up to the one sought is the answer where it has that id, else there is none
-    served : pick t (some r) none ≡ sought_in f R slots b k
+    served : pick t (Some r) None ≡ sought_in f R slots b k
     served =
-        subst (λ (u : Bool). pick u (some r) none ≡ sought_in f R slots b k) (sym told)
-        (subst (λ (z : ℕ). pick (row_has_id f (table_room R (length slots) b.count) z k) (some z) none ≡ sought_in f R slots b k) (sym row) (sym (rw (ne_eqb e 0 some-slot) refl) ∙ sought_is))
+        subst (λ (u : Bool). pick u (Some r) None ≡ sought_in f R slots b k) (sym told)
+        (subst (λ (z : ℕ). pick (row_has_id f (table_room R (length slots) b.count) z k) (Some z) None ≡ sought_in f R slots b k) (sym row) (sym (rw (ne_eqb e 0 some-slot) refl) ∙ sought_is))
 
     -- where the row of the last slot with an id up to the one sought has that id, it is the answer
-    pub seek_hit : t ≡ true → some r ≡ sought_in f R slots b k
+    pub seek_hit : t ≡ true → Some r ≡ sought_in f R slots b k
     seek_hit h = rw h at served
 
     -- where the row of the last slot with an id up to the one sought has not that id, none is answered
-    pub seek_other : t ≡ false → none ≡ sought_in f R slots b k
+    pub seek_other : t ≡ false → None ≡ sought_in f R slots b k
     seek_other h = rw h at served
 
 -- a lookup in a table in lent memory, over what `build` left, gives the map's answer
@@ -637,5 +636,5 @@ pub found_right : (rows old slots : List ℕ) (count k : ℕ) (b : Ids) → Buil
 found_right rows old slots count k b h = get_right (id_of rows) (rows_fit (length rows)) old slots count k b h
 
 -- whatever was lent, a row that a lookup in a table serves lies in the table and has the id
-pub found_safe : (rows slots : List ℕ) (b : Ids) (k r : ℕ) → searched rows slots b k ≡ some r → (r < table_room (rows_fit (length rows)) (length slots) b.count) × (id_of rows r ≡ k)
+pub found_safe : (rows slots : List ℕ) (b : Ids) (k r : ℕ) → searched rows slots b k ≡ Some r → (r < table_room (rows_fit (length rows)) (length slots) b.count) × (id_of rows r ≡ k)
 found_safe rows slots b k r e = get_safe (id_of rows) (rows_fit (length rows)) slots b k r e
