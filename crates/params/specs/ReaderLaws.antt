@@ -1,5 +1,5 @@
 -- What the code's parts promise, put together to the answers of Reader.antt. Assumes nothing.
-use Rattle.std.specs.Prelude.{ℕ, zero, suc, ◌+◌, ◌-◌, ◌≤◌, ◌<◌, min, ◌≡◌, refl, true, false, not, ◌&&◌, eqb, leb, ltb, length, take, get_or}
+use Rattle.std.specs.Prelude.{ℕ, zero, suc, ◌+◌, ◌-◌, ◌≤◌, ◌<◌, min, ◌≡◌, refl, true, false, not, ◌&&◌, Result, Ok, Err, eqb, leb, ltb, length, take, get_or}
 use Rattle.std.proofs.Common.{sym, ◌∙◌, subst, length-take-le}
 use Rattle.std.proofs.Math.Path.{ap}
 use mathlib.Core.List.{List, [], ◌∷◌}
@@ -9,6 +9,12 @@ use borrow.Author.Tests.{leb-true, ltb-true, eq-eqb, ne_eqb, eqb-false, not-true
 use Rattle.std.proofs.Math.ListN.{drop}
 use Rattle.common.specs.Lists.{split, drop_end}
 use Rattle.common.specs.Tests.{both}
+use Rattle.error.specs.declared.Fault.{Fault}
+use Rattle.error.specs.declared.Fault.TheVariants.{OpenLiteral}
+use Rattle.params.specs.declared.Cut.{Cut}
+use Rattle.common.specs.Compare.{clash}
+use Rattle.std.specs.Result.{MatchResult, IsErrAnd}
+use Rattle.std.proofs.lemmas.Result.{err_from_is_err_and}
 use Rattle.error.specs.Refusal.{Refusal, refusal, good, bad}
 use Rattle.lex.specs.Byte.{white, place}
 use Rattle.lex.specs.Place.{place_drop}
@@ -17,11 +23,9 @@ use Rattle.lex.specs.Answer.{Sought, at, fault, placed}
 use Rattle.lex.specs.At.{trivia_at}
 use Rattle.lex.specs.Right.{trivia_here}
 use Rattle.params.specs.ParameterEnd.{cut_of, runs_out, started, eaten}
-use Rattle.params.specs.Answer.{stops_before, literal_open, Read, reading, span, reader_in_file, NextParamIn}
+use Rattle.params.specs.Answer.{stops_before, literal_open, Read, reading, span, Span, reader_in_file, NextParamIn}
 use Rattle.params.specs.Reader.{bounded, param_begun, param_of}
 use Rattle.params.specs.Skips.{emptied, empty_of, skip_of, and_then, skip_from, skips_of}
-use Rattle.params.specs.declared.State.{State}
-use Rattle.params.specs.declared.NextParam as Code
 
 -- where the test for a place and an end in a file of n bytes passes, they lie in it and not backwards
 pub in_true : (n p e : ℕ) → reader_in_file n p e ≡ true → (p ≤ e) × (e ≤ n)
@@ -140,5 +144,16 @@ unfolding skips_of
 skips_in n s p e h = rw h refl
 
 -- a parameter that is cut lies in the file, and runs forwards
-pub cut_places : (n : ℕ) (r : Code.NextParam) (a z : ℕ) (t : State) → NextParamIn n r → r ≡ Code.TheVariants.Span a z t → (a ≤ z) × (z ≤ n)
-cut_places n r a z t h e = subst (NextParamIn n) e h
+pub cut_places : (n : ℕ) (r : Result Span Fault) (a : Span) → NextParamIn n r → r ≡ Ok a → (a.start ≤ a.stop) × (a.stop ≤ n)
+cut_places n r a h e = subst (NextParamIn n) e h
+
+-- where a parameter's end is turned to a fault, that is the open literal
+pub open_fault : (r : Result Cut ℕ) (m : Result Cut Fault) (f : Fault) → MatchResult r (λ c. m ≡ Ok c) (λ q. IsErrAnd m (λ g. g ≡ OpenLiteral q)) → m ≡ Err f
+    → (q : ℕ) × (r ≡ Err q) × (f ≡ OpenLiteral q)
+open_fault (Ok c) m f h e = clash (cc)
+open_fault (Err q) m f h e = let (y, a, b) = err_from_is_err_and m h in (q, refl, cc)
+
+-- where a parameter's end is turned to a fault, a parameter's end that was found is as it was
+pub cut_kept : (r : Result Cut ℕ) (m : Result Cut Fault) (k : Cut) → MatchResult r (λ c. m ≡ Ok c) (λ q. IsErrAnd m (λ g. g ≡ OpenLiteral q)) → m ≡ Ok k → r ≡ Ok k
+cut_kept (Ok c) m k h e = cc
+cut_kept (Err q) m k h e = let (y, a, b) = err_from_is_err_and m h in clash (cc)

@@ -1,14 +1,15 @@
 // The argument reader's core: one parameter after another, cut and not yet read.
 //
 // As `Args` of the Rust's value.rs down to param_span, with the file as a parameter and the reader's place and end in a struct that
-// goes in and comes back. What is cut is read by the crates above. Nothing past the reader's end is looked at: all works on the bytes
-// up to it, so that places are the file's.
+// is lent. What is cut is read by the crates above. Nothing past the reader's end is looked at: all works on the bytes up to it, so
+// that places are the file's. A refusal leaves the reader where document 01 says.
 #![tactic(auto)]
 
 ghost use Rattle.std.specs.Prelude.{◌≡◌, true, false, ◌&&◌, ◌+◌, ◌-◌, ◌≤◌, ◌<◌, ◌^◌, min, length, take, drop};
 ghost use Rattle.params.specs.ParameterEnd.{cut_of, started};
 ghost use Rattle.params.specs.Seek.{Standing, StandingAtByte, ParamStep, search_from};
-ghost use Rattle.params.specs.Answer.{ended_at, EndedIn, reader_in_file, told_next_param, NextParamIn, told_opened_reader, opened_of, told_emptiness, told_skipped};
+ghost use Rattle.error.specs.Refusal.{told_result};
+ghost use Rattle.params.specs.Answer.{ended_at, EndedIn, reader_in_file, told_read, NextParamIn, opened_of};
 ghost use Rattle.params.specs.Reader.{param_of};
 ghost use Rattle.params.specs.Skips.{empty_of, skip_of, skips_of};
 
@@ -17,45 +18,24 @@ use lex::FoundPlace;
 use tokens::TokenEnd;
 
 // Where a reader stands, and up to where it reads.
-#[derive(Clone, Copy)]
+#[derive(Clone, Copy, PartialEq, Eq)]
 pub struct State {
     pub place: usize,
     pub end: usize,
 }
 
-// Where a parameter stops, trailing trivia dropped, and where its comma or the end is; or the quote of an open literal.
-#[derive(Clone, Copy)]
-pub enum Ended {
-    At(usize, usize),
-    Open(usize),
+// A part of the file, from start up to stop.
+#[derive(Clone, Copy, PartialEq, Eq)]
+pub struct Span {
+    pub start: usize,
+    pub stop: usize,
 }
 
-// A parameter from start up to stop, and the reader past it; or a refusal, and the reader where document 01 says.
-#[derive(Clone, Copy)]
-pub enum NextParam {
-    Span(usize, usize, State),
-    Refused(Fault, State),
-}
-
-// A reader, or a refusal.
-#[derive(Clone, Copy)]
-pub enum OpenedReader {
-    Reader(State),
-    Refused(Fault),
-}
-
-// Whether no parameter is left, and the reader past the trivia.
-#[derive(Clone, Copy)]
-pub enum Emptiness {
-    Empty(bool, State),
-    Refused(Fault, State),
-}
-
-// The reader past what was skipped; or a refusal, and the reader where that leaves it.
-#[derive(Clone, Copy)]
-pub enum Skipped {
-    Past(State),
-    Refused(Fault, State),
+// Where a parameter stops, trailing trivia dropped, and where its comma or the end is.
+#[derive(Clone, Copy, PartialEq, Eq)]
+pub struct Cut {
+    pub stop: usize,
+    pub bound: usize,
 }
 
 // What the token at a place does to the search for a parameter's end: the comma is there, a literal is open, or the search goes on
@@ -65,15 +45,6 @@ enum Step {
     Comma,
     Open,
     On(usize, usize, usize),
-}
-
-fn lowered(depth: usize) -> usize
-    ensures { result ≡ depth - 1 }
-{
-    if depth == 0 {
-        return 0;
-    }
-    depth - 1
 }
 
 // A comma: of the parameter, or of a list in it.
@@ -137,7 +108,7 @@ fn token_at(part: &[u8], i: usize, solid: usize, depth: usize) -> Step
         return Step::On(i + 1, i + 1, depth + 1);
     }
     if b == b')' {
-        return Step::On(i + 1, i + 1, lowered(depth));
+        return Step::On(i + 1, i + 1, depth.saturating_sub(1));
     }
     if b == b'\'' {
         return text_step(part, i, solid, depth);
@@ -171,12 +142,12 @@ fn past_plain(part: &[u8], i: usize) -> usize
     j
 }
 
-// Finds where the parameter ends that starts at `start`.
-pub fn param_end(part: &[u8], start: usize) -> Ended
+// Finds where the parameter ends that starts at `start`, or the quote of a literal that is open in it.
+pub fn param_end(part: &[u8], start: usize) -> Result<Cut, usize>
     ensures result_value { ended_at part.now result ≡ cut_of (drop start part.now) }
     ensures ended_in { EndedIn (min start (length part.now)) (length part.now) result }
 {
-    let from = common::within(start, part.len());
+    let from = start.min(part.len());
     let mut i = from;
     let mut solid = from;
     let mut depth: usize = 0;
@@ -186,8 +157,13 @@ pub fn param_end(part: &[u8], start: usize) -> Ended
             solid = i;
         } else {
             match token_at(part, i, solid, depth) {
-                Step::Comma => return Ended::At(solid, i),
-                Step::Open => return Ended::Open(i),
+                Step::Comma => {
+                    return Ok(Cut {
+                        stop: solid,
+                        bound: i,
+                    });
+                }
+                Step::Open => return Err(i),
                 Step::On(j, reached, open) => {
                     i = j;
                     solid = reached;
@@ -196,7 +172,10 @@ pub fn param_end(part: &[u8], start: usize) -> Ended
             }
         }
     }
-    Ended::At(solid, part.len())
+    Ok(Cut {
+        stop: solid,
+        bound: part.len(),
+    })
 }
 
 // Whether a byte stands here with which no trivia begins: most parameters start at once.
@@ -230,56 +209,38 @@ fn in_file(n: usize, place: usize, end: usize) -> bool
     (place <= end) & (end <= n)
 }
 
-// Past the comma that stands at `bound`, if it is not the end.
-fn past_comma(bound: usize, end: usize) -> usize
-    requires { end < 2 ^ 63 }
-    ensures { result ≡ min (bound + 1) end }
-{
-    if bound < end {
-        return bound + 1;
-    }
-    end
-}
-
 // Cuts the next parameter.
-pub fn param_span(file: &[u8], at: State) -> NextParam
-    ensures result_value { told_next_param result ≡ param_of file.now at.place at.end }
+pub fn param_span(file: &[u8], at: &mut State) -> Result<Span, Fault>
+    ensures result_value { told_read result at.new ≡ param_of file.now at.old.place at.old.end }
     ensures next_param_in { NextParamIn (length file.now) result }
 {
-    let place = at.place;
     let end = at.end;
-    if !in_file(file.len(), place, end) {
-        return NextParam::Refused(Fault::OutOfFile, at);
+    if !in_file(file.len(), at.place, end) {
+        return Err(Fault::OutOfFile);
     }
     let part = &file[..end];
-    let start = past_trivia(part, place);
+    let start = past_trivia(part, at.place);
+    at.place = start;
     if start == end {
-        return NextParam::Refused(Fault::NoParameter(end), State { place: end, end });
+        return Err(Fault::NoParameter(end));
     }
-    match param_end(part, start) {
-        Ended::Open(quote) => NextParam::Refused(
-            Fault::OpenLiteral(quote),
-            State { place: start, end },
-        ),
-        Ended::At(stop, bound) => NextParam::Span(
-            start,
-            stop,
-            State {
-                place: past_comma(bound, end),
-                end,
-            },
-        ),
-    }
+    let cut = param_end(part, start).map_err(Fault::OpenLiteral)?;
+    // Past the comma, if it is not the end.
+    at.place = (cut.bound + 1).min(end);
+    Ok(Span {
+        start,
+        stop: cut.stop,
+    })
 }
 
 // A reader of the file from a place up to an end.
-pub fn new(file: &[u8], place: usize, end: usize) -> OpenedReader
-    ensures { told_opened_reader result ≡ opened_of file.now place end }
+pub fn new(file: &[u8], place: usize, end: usize) -> Result<State, Fault>
+    ensures { told_result result ≡ opened_of file.now place end }
 {
     if in_file(file.len(), place, end) {
-        return OpenedReader::Reader(State { place, end });
+        return Ok(State { place, end });
     }
-    OpenedReader::Refused(Fault::OutOfFile)
+    Err(Fault::OutOfFile)
 }
 
 // The reader's place.
@@ -290,43 +251,35 @@ pub fn offset(at: State) -> usize
 }
 
 // Whether no parameter is left; the reader goes past the trivia.
-pub fn is_empty(file: &[u8], at: State) -> Emptiness
-    ensures { told_emptiness result ≡ empty_of file.now at.place at.end }
+pub fn is_empty(file: &[u8], at: &mut State) -> Result<bool, Fault>
+    ensures { told_read result at.new ≡ empty_of file.now at.old.place at.old.end }
 {
-    let place = at.place;
     let end = at.end;
-    if !in_file(file.len(), place, end) {
-        return Emptiness::Refused(Fault::OutOfFile, at);
+    if !in_file(file.len(), at.place, end) {
+        return Err(Fault::OutOfFile);
     }
-    let start = past_trivia(&file[..end], place);
-    Emptiness::Empty(start == end, State { place: start, end })
+    let start = past_trivia(&file[..end], at.place);
+    at.place = start;
+    Ok(start == end)
 }
 
 // Goes past one parameter.
-pub fn skip(file: &[u8], at: State) -> Skipped
-    ensures { told_skipped result ≡ skip_of file.now at.place at.end }
+pub fn skip(file: &[u8], at: &mut State) -> Result<(), Fault>
+    ensures { told_read result at.new ≡ skip_of file.now at.old.place at.old.end }
 {
-    match param_span(file, at) {
-        NextParam::Span(_, _, to) => Skipped::Past(to),
-        NextParam::Refused(f, to) => Skipped::Refused(f, to),
-    }
+    param_span(file, at)?;
+    Ok(())
 }
 
 // Goes past n parameters, or stops at the first refusal.
-pub fn skip_n(file: &[u8], at: State, n: usize) -> Skipped
-    ensures { told_skipped result ≡ skips_of n file.now at.place at.end }
+pub fn skip_n(file: &[u8], at: &mut State, n: usize) -> Result<(), Fault>
+    ensures { told_read result at.new ≡ skips_of n file.now at.old.place at.old.end }
 {
     if !in_file(file.len(), at.place, at.end) {
-        return Skipped::Refused(Fault::OutOfFile, at);
+        return Err(Fault::OutOfFile);
     }
-    let mut here = at;
-    let mut left = n;
-    while 0 < left {
-        match skip(file, here) {
-            Skipped::Refused(f, to) => return Skipped::Refused(f, to),
-            Skipped::Past(to) => here = to,
-        }
-        left -= 1;
+    for i in 0..n {
+        skip(file, at)?;
     }
-    Skipped::Past(here)
+    Ok(())
 }

@@ -9,12 +9,12 @@ use Rattle.params.proofs.param_end.Goals as goal
 
 pub loop-i-init : goal.loop-i-init
 loop-i-init c = let s = c.args.part.now in
-    let w = c.within-from.ensures in (
+    let w = c.min-from.ensures in (
       omega arith,
       omega arith,
       omega (arith, w),
       omega arith,
-      onward_starts s c.args.start c.within-from.result (ap (λ (k : ℕ). drop k s) w ∙ drop_within s c.args.start),
+      onward_starts s c.args.start c.min-from.result (ap (λ (k : ℕ). drop k s) w ∙ drop_within s c.args.start),
     )
 
 pub loop-i-smaller-then-part-i-gt47 : goal.loop-i-smaller-then-part-i-gt47
@@ -40,12 +40,12 @@ token_at-requires c = let l = c.loop-i in record {
 pub returns-in-Comma : goal.returns-in-Comma
 returns-in-Comma c = let l = c.loop-i in
     let k : ParamStep c.args.part.now l.i l.solid l.depth StepCode.TheVariants.Comma = rw c.in-Comma.is at c.token_at.ensures in
-    record { result_value = sym k ∙ l.invariant.4; ended_in = (omega (arith, c.within-from.ensures), omega arith, omega arith) }
+    record { result_value = sym k ∙ l.invariant.4; ended_in = (omega (arith, c.min-from.ensures), omega arith, omega arith) }
 
 pub returns-in-Open : goal.returns-in-Open
 returns-in-Open c = let l = c.loop-i in
     let k : ParamStep c.args.part.now l.i l.solid l.depth StepCode.TheVariants.Open = rw c.in-Open.is at c.token_at.ensures in
-    record { result_value = sym k ∙ l.invariant.4; ended_in = (omega (arith, c.within-from.ensures), omega arith) }
+    record { result_value = sym k ∙ l.invariant.4; ended_in = (omega (arith, c.min-from.ensures), omega arith) }
 
 pub loop-i-smaller : goal.loop-i-smaller
 loop-i-smaller c = let l = c.loop-i in
@@ -62,4 +62,4 @@ loop-i-preserved c = let l = c.loop-i in
 pub returns : goal.returns
 returns c = let l = c.loop-i in
     let s = c.args.part.now in
-    record { result_value = sym (onward_over s l.i l.solid l.depth (omega arith)) ∙ l.invariant.4; ended_in = (omega (arith, c.within-from.ensures), omega arith, omega arith) }
+    record { result_value = sym (onward_over s l.i l.solid l.depth (omega arith)) ∙ l.invariant.4; ended_in = (omega (arith, c.min-from.ensures), omega arith, omega arith) }

@@ -1,9 +1,7 @@
 use Rattle.params.specs.Skips.{skip_from}
+use Prim.Native.Nat.{◌-◌}
 use mathlib.Core.Path.{◌≡◌}
 use Rattle.params.proofs.skip_n.Given as goal
 
-abbrev pub invariant-loop-left : goal.invariant-loop-left
-invariant-loop-left l = skip_from l.left l.file l.here.place l.here.end ≡ skip_from l.n l.file l.initial.here.place l.initial.here.end
-
-abbrev pub decreases-loop-left : goal.decreases-loop-left
-decreases-loop-left l = l.left
+abbrev pub invariant-loop-i : goal.invariant-loop-i
+invariant-loop-i l = skip_from (l.n - l.i) l.file l.at.place l.at.end ≡ skip_from l.n l.file l.fn.at.place l.fn.at.end

@@ -29,7 +29,7 @@ pub overflow_add-result-then-b-eq41-2 : goal.overflow_add-result-then-b-eq41-2
 overflow_add-result-then-b-eq41-2 c = omega (arith, c.requires.place, c.requires.bounded)
 
 pub returns-then-b-eq41 : goal.returns-then-b-eq41
-returns-then-b-eq41 c = on_byte c.args.part.now c.args.i c.args.solid c.args.depth c.lowered.result c.requires (step_closing c.args.part.now c.args.i c.args.solid c.args.depth c.requires.place c.if-b-eq41.true ∙ ap (search_from c.args.part.now (c.args.i + 1) (c.args.i + 1)) (sym c.lowered.ensures)) (omega (arith, c.lowered.ensures))
+returns-then-b-eq41 c = on_byte c.args.part.now c.args.i c.args.solid c.args.depth c.saturating_sub.result c.requires (step_closing c.args.part.now c.args.i c.args.solid c.args.depth c.requires.place c.if-b-eq41.true ∙ ap (search_from c.args.part.now (c.args.i + 1) (c.args.i + 1)) (sym c.saturating_sub.ensures)) (omega (arith, c.saturating_sub.ensures))
 
 pub text_step-requires : goal.text_step-requires
 text_step-requires c = record { standing = c.requires; byte = omega (arith, c.if-b-eq39.true) }
