@@ -4,14 +4,17 @@
 -- FormRight.antt shows that Text.antt, Head.antt and Word.antt compute just this, and that there is no other answer.
 -- Assumes nothing.
 -- Definitions to be believed: no law, and nothing computed that no theorem ties (docs/BELIEVE.md).
-use Rattle.std.specs.Prelude.{ℕ, ◌+◌, ◌*◌, ◌-◌, ◌^◌, ◌≤◌, ◌<◌, ◌≡◌, Bool, true, false, not, List, [], ◌∷◌, ◌++◌, map, eqb, length}
+use Rattle.std.specs.Prelude.{ℕ, ◌+◌, ◌*◌, ◌-◌, ◌^◌, ◌≤◌, ◌<◌, ◌≡◌, Bool, true, false, not, List, [], ◌∷◌, ◌++◌, map, eqb, length, Result, Ok, Err}
 use Prim.Native.String.{String}
 use Rattle.common.specs.Bytes.{bytes}
 use Rattle.lex.specs.Byte.{white}
 use Rattle.lex.specs.Grammar.{Begins}
 use Rattle.record.specs.Byte.{digit, upper}
 use Rattle.record.specs.declared.Head.{Head}
-use Rattle.record.specs.declared.Head.TheVariants.{Bad, Complex, Simple}
+use Rattle.record.specs.declared.Head.TheVariants.{Complex, Simple}
+use Rattle.record.specs.declared.Named.{Named}
+use Rattle.error.specs.declared.Reason.{Reason}
+use Rattle.error.specs.declared.Reason.TheVariants as reason
 use Rattle.record.specs.declared.Word.{Word}
 use Rattle.record.specs.declared.Word.TheVariants.{Header, Data, EndSection, EndFile, Other}
 
@@ -94,12 +97,12 @@ pub record Keyword (xs k w r : List ℕ) : Type 0 where
   pub ended : NoGapLast k
 
 -- the head of a header record with this text; a place is the number of bytes before it
-pub data HeaderForm : List ℕ → Head → Type 0 where
+pub data HeaderForm : List ℕ → Result Named Reason → Type 0 where
   -- reason 1, "header record without `(`"
-  unopened : (b : List ℕ) → NoParen b → HeaderForm b (Bad 1)
+  unopened : (b : List ℕ) → NoParen b → HeaderForm b (Err reason.NoHeaderParen)
   -- a keyword, trimmed of whitespace as in a data record, and the first byte `(`
   named : {a v k w r : List ℕ} → Gapped a v → Keyword v k w r
-      → HeaderForm (a ++ v) (Simple 0 (length a) (length (a ++ k)) (length (a ++ (k ++ w))))
+      → HeaderForm (a ++ v) (Ok (record { start = length a; end = length (a ++ k); opening = length (a ++ (k ++ w)) }))
 
 -- the number that decimal digits stand for: each counts ten times as much as the one after it
 unfoldable pub value_of : List ℕ → ℕ
@@ -117,21 +120,21 @@ pub data Lead : List ℕ → ℕ → List ℕ → Type 0 where
   lead : (ds w u v : List ℕ) → Id ds → Gap w → Gapped u v → Lead (35 ∷ (ds ++ (w ++ (61 ∷ u)))) (value_of ds) v
 
 -- the head of a data record with this text
-pub data HeadForm : List ℕ → Head → Type 0 where
+pub data HeadForm : List ℕ → Result Head Reason → Type 0 where
   -- reason 2, "no `#`"
-  unmarked : (b : List ℕ) → (Begins 35 b → ⊥) → HeadForm b (Bad 2)
+  unmarked : (b : List ℕ) → (Begins 35 b → ⊥) → HeadForm b (Err reason.NoHash)
   -- reason 3, "id above 4294967295, as soon as a digit passes it"
-  above : (ds r : List ℕ) → All digit ds → 4294967295 < value_of ds → HeadForm (35 ∷ (ds ++ r)) (Bad 3)
+  above : (ds r : List ℕ) → All digit ds → 4294967295 < value_of ds → HeadForm (35 ∷ (ds ++ r)) (Err reason.LargeId)
   -- reason 4, "no digits"
-  numberless : (r : List ℕ) → NotFirst digit r → HeadForm (35 ∷ r) (Bad 4)
+  numberless : (r : List ℕ) → NotFirst digit r → HeadForm (35 ∷ r) (Err reason.NoDigits)
   -- reason 5, "no `=`"
-  unequal : (ds w r : List ℕ) → Id ds → NotFirst digit (w ++ r) → Gapped w r → (Begins 61 r → ⊥) → HeadForm (35 ∷ (ds ++ (w ++ r))) (Bad 5)
+  unequal : (ds w r : List ℕ) → Id ds → NotFirst digit (w ++ r) → Gapped w r → (Begins 61 r → ⊥) → HeadForm (35 ∷ (ds ++ (w ++ r))) (Err reason.NoEqual)
   -- reason 6, "nothing after `=`"
-  valueless : {a : List ℕ} {n : ℕ} → Lead a n [] → HeadForm a (Bad 6)
+  valueless : {a : List ℕ} {n : ℕ} → Lead a n [] → HeadForm a (Err reason.NoValue)
   -- reason 7, "no `(`"
-  unopened : {a v : List ℕ} {n : ℕ} → Lead a n v → (v ≡ [] → ⊥) → NoParen v → HeadForm (a ++ v) (Bad 7)
+  unopened : {a v : List ℕ} {n : ℕ} → Lead a n v → (v ≡ [] → ⊥) → NoParen v → HeadForm (a ++ v) (Err reason.NoParen)
   -- "then `(` for a complex record"
-  complex : {a r : List ℕ} {n : ℕ} → Lead a n (40 ∷ r) → HeadForm (a ++ (40 ∷ r)) (Complex n (length a))
+  complex : {a r : List ℕ} {n : ℕ} → Lead a n (40 ∷ r) → HeadForm (a ++ (40 ∷ r)) (Ok (Complex n (length a)))
   -- "else a keyword and the first byte `(` up to the record's end": the keyword's start and end, and the `(`
   simple : {a v k w r : List ℕ} {n : ℕ} → Lead a n v → (Begins 40 v → ⊥) → Keyword v k w r
-      → HeadForm (a ++ v) (Simple n (length a) (length (a ++ k)) (length (a ++ (k ++ w))))
+      → HeadForm (a ++ v) (Ok (Simple n (length a) (length (a ++ k)) (length (a ++ (k ++ w)))))

@@ -1,6 +1,6 @@
 -- Form.antt's rules and what Text.antt, Head.antt and Word.antt compute are one: what is computed is so, and nothing else is.
 -- Assumes nothing.
-use Rattle.std.specs.Prelude.{ℕ, zero, suc, ◌+◌, ◌*◌, ◌-◌, ◌^◌, ◌<◌, ◌≡◌, refl, Bool, true, false, not, ◌||◌, ◌&&◌, ◌⊎◌, List, [], ◌∷◌, ◌++◌, map, eqb, leb, length, take, drop}
+use Rattle.std.specs.Prelude.{ℕ, zero, suc, ◌+◌, ◌*◌, ◌-◌, ◌^◌, ◌<◌, ◌≡◌, refl, Bool, true, false, not, ◌||◌, ◌&&◌, ◌⊎◌, List, [], ◌∷◌, ◌++◌, map, eqb, leb, length, take, drop, Result, Ok, Err}
 use Prim.Native.String.{String}
 use Rattle.std.proofs.Common.{sym, ◌∙◌, ap, inl, inr, append_assoc, append-nil, arith, length-append, take-append-drop, take_at, drop_at, leb-false, leb-true, lt-ltb, le-ltb, eqb-true, eq-eqb, ne_eqb}
 use Rattle.std.proofs.lemmas.List.{map-append, length-map}
@@ -19,7 +19,10 @@ use Rattle.record.specs.Word.{same_bytes, is_word, opens_paren, endsec, header_w
 use Rattle.record.specs.Form.{NotFirst, SkippedBytes, value_of, Id, Keyword, Lead, HeadForm, HeaderForm, Gap, NoGapFirst, NoGapLast, Gapped, NoParen, Trimmed, Spelt, Says, WordForm}
 use Rattle.common.specs.Bytes.{bytes}
 use Rattle.record.specs.declared.Head.{Head}
-use Rattle.record.specs.declared.Head.TheVariants.{Bad, Complex, Simple}
+use Rattle.record.specs.declared.Head.TheVariants.{Complex, Simple}
+use Rattle.record.specs.declared.Named.{Named}
+use Rattle.error.specs.declared.Reason.{Reason}
+use Rattle.error.specs.declared.Reason.TheVariants as reason
 use Rattle.record.specs.declared.Word.{Word}
 use Rattle.record.specs.declared.Word.TheVariants.{Header, Data, EndSection, EndFile, Other}
 pub mod Parts
@@ -165,31 +168,31 @@ lead_only (Lead.lead ds w u v i b s) =
 
 -- in a data record, what stands where an `=` should, and what stands after the `=`
 module _ (b : List ℕ) (n : ℕ) where
-  equal_none : (r : List ℕ) → (Begins 61 r → ⊥) → equal_head b n r ≡ Bad 5
+  equal_none : (r : List ℕ) → (Begins 61 r → ⊥) → equal_head b n r ≡ Err reason.NoEqual
   equal_none [] h = refl
   equal_none (c ∷ r) h = rw (ne_eqb c 61 (λ e. h (r, cc)))
 
-  value_none : (v : List ℕ) → (v ≡ [] → ⊥) → NoParen v → value_head b n v ≡ Bad 7
+  value_none : (v : List ℕ) → (v ≡ [] → ⊥) → NoParen v → value_head b n v ≡ Err reason.NoParen
   value_none [] z h = absurd (z refl)
   value_none (c ∷ r) z h = rw (not-true (eqb c 40) h.0, keyword_none_only (c ∷ r) h)
 
   value_keyed : (v k w r : List ℕ) → (Begins 40 v → ⊥) → Keyword v k w r
-      → value_head b n v ≡ Simple n (place b v) (place b (w ++ (40 ∷ r))) (place b (40 ∷ r))
+      → value_head b n v ≡ Ok (Simple n (place b v) (place b (w ++ (40 ∷ r))) (place b (40 ∷ r)))
   value_keyed [] k w r h f = clash (cc (keyword_only f, keyword_none_only [] tt))
   value_keyed (c ∷ v) k w r h f = rw (ne_eqb c 40 (λ e. h (v, cc)), keyword_only f)
 
 -- a keyword's places are the numbers of bytes before them
-keyed_places : (n : ℕ) (a : List ℕ) {v k w r : List ℕ} → Keyword v k w r
-    → Simple n (length a) (length (a ++ k)) (length (a ++ (k ++ w)))
-    ≡ Simple n (place (a ++ v) v) (place (a ++ v) (w ++ (40 ∷ r))) (place (a ++ v) (40 ∷ r))
-keyed_places n a {v} {k} {w} {r} f =
+keyed_places : {H : Type 0} (f : ℕ → ℕ → ℕ → H) (a : List ℕ) {v k w r : List ℕ} → Keyword v k w r
+    → f (length a) (length (a ++ k)) (length (a ++ (k ++ w)))
+    ≡ f (place (a ++ v) v) (place (a ++ v) (w ++ (40 ∷ r))) (place (a ++ v) (40 ∷ r))
+keyed_places f a {v} {k} {w} {r} q =
     let x : length a ≡ place (a ++ v) v = simp length-append (omega arith) in
-    let y : length (a ++ k) ≡ place (a ++ v) (w ++ (40 ∷ r)) = rw f.shape (simp length-append (omega arith)) in
-    let z : length (a ++ (k ++ w)) ≡ place (a ++ v) (40 ∷ r) = rw f.shape (simp length-append (omega arith)) in
+    let y : length (a ++ k) ≡ place (a ++ v) (w ++ (40 ∷ r)) = rw q.shape (simp length-append (omega arith)) in
+    let z : length (a ++ (k ++ w)) ≡ place (a ++ v) (40 ∷ r) = rw q.shape (simp length-append (omega arith)) in
     cc
 
 -- "Data: `#`, digits ..", reasons 2 to 7: the head of a text by the rules is the one that is computed
-pub headform_only : {b : List ℕ} {h : Head} → HeadForm b h → h ≡ data_head b
+pub headform_only : {b : List ℕ} {h : Result Head Reason} → HeadForm b h → h ≡ data_head b
 unfolding data_head
 headform_only (HeadForm.unmarked [] h) = refl
 headform_only (HeadForm.unmarked (c ∷ r) h) = rw (ne_eqb c 35 (λ e. h (r, cc)))
@@ -201,67 +204,67 @@ headform_only (HeadForm.numberless r h) = rw (number_halt 0 r h, eq-eqb (length 
 headform_only (HeadForm.unequal ds w r i d s h) = sym (id_only ds (w ++ r) i d ∙ rw (gap_only w r s) (equal_none (35 ∷ (ds ++ (w ++ r))) (value_of ds) r h))
 headform_only (HeadForm.valueless {a} l) = sym (rw (append-nil a) at (lead_only l))
 headform_only (HeadForm.unopened {a} {v} {n} l z f) = sym (lead_only l ∙ value_none (a ++ v) n v z f)
-headform_only (HeadForm.complex {a} {r} {n} l) = ap (Complex n) (simp length-append (omega arith)) ∙ sym (lead_only l)
-headform_only (HeadForm.simple {a} {v} {k} {w} {r} {n} l h f) = keyed_places n a f ∙ sym (lead_only l ∙ value_keyed (a ++ v) n v k w r h f)
+headform_only (HeadForm.complex {a} {r} {n} l) = ap (λ (p : ℕ). Ok (Complex n p)) (simp length-append (omega arith)) ∙ sym (lead_only l)
+headform_only (HeadForm.simple {a} {v} {k} {w} {r} {n} l h f) = keyed_places (λ (p q s : ℕ). Ok (Simple n p q s)) a f ∙ sym (lead_only l ∙ value_keyed (a ++ v) n v k w r h f)
 
 -- the text b has a data record's head by the rules: shown of every text, by what stands after `=`, in place of `=`, after `#`, and at the start
 abbrev Heads : List ℕ → Type 0
-Heads b = (h : Head) × HeadForm b h
+Heads b = (h : Result Head Reason) × HeadForm b h
 
 value_comes : {a : List ℕ} {n : ℕ} (v : List ℕ) → Lead a n v → Heads (a ++ v)
-value_comes {a} [] l = (Bad 6, rw (append-nil a) (HeadForm.valueless l))
+value_comes {a} [] l = (Err reason.NoValue, rw (append-nil a) (HeadForm.valueless l))
 value_comes {a} {n} (c ∷ r) l = go (ℕ_discrete c 40) (keyword_comes (c ∷ r))
   where
     go : Dec (c ≡ 40) → Keys (c ∷ r) → Heads (a ++ (c ∷ r))
-    go (yes p) k = rw p (Complex n (length a), HeadForm.complex (rw p at l))
+    go (yes p) k = rw p (Ok (Complex n (length a)), HeadForm.complex (rw p at l))
     go (no h) (inl (k, w, s, f)) = (_, HeadForm.simple l (λ (s, e). h (cc)) f)
-    go (no h) (inr f) = (Bad 7, HeadForm.unopened l (λ e. clash (cc)) f)
+    go (no h) (inr f) = (Err reason.NoParen, HeadForm.unopened l (λ e. clash (cc)) f)
 
 equal_comes : (ds w z : List ℕ) → Id ds → NotFirst digit (w ++ z) → Gapped w z → Heads (35 ∷ (ds ++ (w ++ z)))
-equal_comes ds w [] i d s = (Bad 5, HeadForm.unequal ds w [] i d s (λ (r, e). clash (cc)))
+equal_comes ds w [] i d s = (Err reason.NoEqual, HeadForm.unequal ds w [] i d s (λ (r, e). clash (cc)))
 equal_comes ds w (c ∷ z) i d s = go (ℕ_discrete c 61) (gap_comes z)
   where
     go : Dec (c ≡ 61) → (f r : List ℕ) × (z ≡ f ++ r) × Gapped f r → Heads (35 ∷ (ds ++ (w ++ (c ∷ z))))
     go (yes p) (u, v, e, t) = rw (p, e) (simp append_assoc at (value_comes v (Lead.lead ds w u v i s.all t)))
-    go (no h) t = (Bad 5, HeadForm.unequal ds w (c ∷ z) i d s (λ (r, e). h (cc)))
+    go (no h) t = (Err reason.NoEqual, HeadForm.unequal ds w (c ∷ z) i d s (λ (r, e). h (cc)))
 
 number_comes : (ds y : List ℕ) → SkippedBytes digit ds y → Heads (35 ∷ (ds ++ y))
-number_comes [] y s = (Bad 4, HeadForm.numberless y s.over)
+number_comes [] y s = (Err reason.NoDigits, HeadForm.numberless y s.over)
 number_comes (d ∷ ds) y s = go (leb (value_of (d ∷ ds)) 4294967295) refl (gap_comes y)
   where
     go : (t : Bool) → leb (value_of (d ∷ ds)) 4294967295 ≡ t → (f r : List ℕ) × (y ≡ f ++ r) × Gapped f r → Heads (35 ∷ (d ∷ (ds ++ y)))
-    go false h t = (Bad 3, HeadForm.above (d ∷ ds) y s.all (leb-false _ _ h))
+    go false h t = (Err reason.LargeId, HeadForm.above (d ∷ ds) y s.all (leb-false _ _ h))
     go true h (w, z, e, t) =
         rw e (equal_comes (d ∷ ds) w z (record { all = s.all; some = λ n. clash (cc); within = leb-true _ _ h }) (rw e at s.over) t)
 
 head_comes : (b : List ℕ) → Heads b
-head_comes [] = (Bad 2, HeadForm.unmarked [] (λ (r, e). clash (cc)))
+head_comes [] = (Err reason.NoHash, HeadForm.unmarked [] (λ (r, e). clash (cc)))
 head_comes (c ∷ r) = go (ℕ_discrete c 35) (split_is digit r)
   where
     go : Dec (c ≡ 35) → SplitAfter digit r → Heads (c ∷ r)
     go (yes p) (ds, y, e, s) = rw (p, e) (number_comes ds y s)
-    go (no h) s = (Bad 2, HeadForm.unmarked (c ∷ r) (λ (r, e). h (cc)))
+    go (no h) s = (Err reason.NoHash, HeadForm.unmarked (c ∷ r) (λ (r, e). h (cc)))
 
 -- "Data: `#`, digits ..", reasons 2 to 7: the head that is computed is that of the text by the rules
 pub headform_is : (b : List ℕ) → HeadForm b (data_head b)
 headform_is b = sole (HeadForm b) (λ h. headform_only) (head_comes b)
 
 -- a header record's head, reason 1: the head of a text by the rules is the one that is computed
-pub headerform_only : {b : List ℕ} {h : Head} → HeaderForm b h → h ≡ header_head b
+pub headerform_only : {b : List ℕ} {h : Result Named Reason} → HeaderForm b h → h ≡ header_head b
 unfolding header_head
 headerform_only (HeaderForm.unopened b f) = let (a, e, s) = gap_is b in
     rw (keyword_none_only (past_gap b) (all_back _ a (past_gap b) (rw e at f)))
-headerform_only (HeaderForm.named {a} {v} s f) = rw (gap_only a v s, keyword_only f) (keyed_places 0 a f)
+headerform_only (HeaderForm.named {a} {v} s f) = rw (gap_only a v s, keyword_only f) (keyed_places (λ (p q s : ℕ). Ok (record { start = p; end = q; opening = s })) a f)
 
 -- every text has a header record's head
-header_comes : (b : List ℕ) → (h : Head) × HeaderForm b h
+header_comes : (b : List ℕ) → (h : Result Named Reason) × HeaderForm b h
 header_comes b = go (gap_comes b)
   where
-    cut : (a v : List ℕ) → b ≡ a ++ v → Gapped a v → Keys v → (h : Head) × HeaderForm b h
+    cut : (a v : List ℕ) → b ≡ a ++ v → Gapped a v → Keys v → (h : Result Named Reason) × HeaderForm b h
     cut a v e s (inl (k, w, r, f)) = rw e (_, HeaderForm.named s f)
-    cut a v e s (inr f) = (Bad 1, HeaderForm.unopened b (rw e (all_join _ a v (gap_free a s.all) f)))
+    cut a v e s (inr f) = (Err reason.NoHeaderParen, HeaderForm.unopened b (rw e (all_join _ a v (gap_free a s.all) f)))
 
-    go : (f r : List ℕ) × (b ≡ f ++ r) × Gapped f r → (h : Head) × HeaderForm b h
+    go : (f r : List ℕ) × (b ≡ f ++ r) × Gapped f r → (h : Result Named Reason) × HeaderForm b h
     go (a, v, e, s) = cut a v e s (keyword_comes v)
 
 -- a header record's head, reason 1: the head that is computed is that of the text by the rules

@@ -1,6 +1,6 @@
 -- What the head of a record's text is, at places of the text: a law for each way out of the code.
 -- Assumes nothing.
-use Rattle.std.specs.Prelude.{ℕ, ◌+◌, ◌-◌, ◌≤◌, ◌<◌, ◌≡◌, true, false, eqb, take, drop}
+use Rattle.std.specs.Prelude.{ℕ, ◌+◌, ◌-◌, ◌≤◌, ◌<◌, ◌≡◌, true, false, eqb, take, drop, Ok, Err}
 use Rattle.std.proofs.Math.Path.{refl}
 use Rattle.std.proofs.Common.{sym, ◌∙◌, ap, arith, take_all}
 use mathlib.Core.List.{List, [], ◌∷◌, map}
@@ -16,7 +16,8 @@ use Rattle.record.specs.Byte.{upper}
 use Rattle.record.specs.Word.{is_word, data_word, opens_data, trimmed}
 use Rattle.record.specs.Turns.{same_lengths}
 use Rattle.record.specs.Head.{value_head, equal_head, data_head, header_head, keyed_head}
-use Rattle.record.specs.declared.Head.TheVariants.{Bad, Complex, Simple}
+use Rattle.record.specs.declared.Head.TheVariants.{Complex, Simple}
+use Rattle.error.specs.declared.Reason.TheVariants.{NoHeaderParen, NoHash, LargeId, NoDigits, NoEqual, NoValue, NoParen}
 
 -- the rest from a byte on begins where the byte stands
 place_cons : (b : List ℕ) (v : ℕ) → v < length b → place b (get_or b v 0 ∷ drop (v + 1) b) ≡ v
@@ -25,23 +26,23 @@ place_cons b v h = ap (place b) (sym (split b v h)) ∙ place_drop b v (omega ar
 -- laws of a data record's head b with the id `id`, where the rest r that is left to read begins at v
 module _ (b : List ℕ) (id v : ℕ) (r : List ℕ) (e : drop v b ≡ r) where
   -- where no byte is left for the value, the head is reason 6
-  pub value_none : length b ≤ v → Bad 6 ≡ value_head b id r
+  pub value_none : length b ≤ v → Err NoValue ≡ value_head b id r
   value_none h = rw (← e, drop_end b v h) refl
 
   -- where the value begins with `(`, the head is that of a complex record
-  pub value_complex : v < length b → get_or b v 0 ≡ 40 → Complex id v ≡ value_head b id r
-  value_complex h k = rw (← e, split b v h, eq-eqb _ _ k) (ap (Complex id) (sym (place_cons b v h)))
+  pub value_complex : v < length b → get_or b v 0 ≡ 40 → Ok (Complex id v) ≡ value_head b id r
+  value_complex h k = rw (← e, split b v h, eq-eqb _ _ k) (ap (λ (p : ℕ). Ok (Complex id p)) (sym (place_cons b v h)))
 
   -- where the value begins with another byte than `(`, the head is by its keyword
   pub value_keyed : v < length b → (get_or b v 0 ≡ 40 → ⊥) → keyed_head b id (drop v b) (keyword (drop v b)) ≡ value_head b id r
   value_keyed h k = rw (← e, split b v h, ne_eqb _ _ k) refl
 
   -- where no byte is left for the `=`, the head is reason 5
-  pub equal_none : length b ≤ v → Bad 5 ≡ equal_head b id r
+  pub equal_none : length b ≤ v → Err NoEqual ≡ equal_head b id r
   equal_none h = rw (← e, drop_end b v h) refl
 
   -- where another byte stands for the `=`, the head is reason 5
-  pub equal_other : v < length b → (get_or b v 0 ≡ 61 → ⊥) → Bad 5 ≡ equal_head b id r
+  pub equal_other : v < length b → (get_or b v 0 ≡ 61 → ⊥) → Err NoEqual ≡ equal_head b id r
   equal_other h k = rw (← e, split b v h, ne_eqb _ _ k) refl
 
   -- where the `=` stands there, the head is that of the value after it and whitespace
@@ -49,54 +50,54 @@ module _ (b : List ℕ) (id v : ℕ) (r : List ℕ) (e : drop v b ≡ r) where
   equal_found h k = rw (← e, split b v h, eq-eqb _ _ k) refl
 
 -- where no `(` is found after a data record's `=`, the head is reason 7
-pub keyed_absent : (b : List ℕ) (id v : ℕ) (k : Keyed) → k ≡ unopened → Bad 7 ≡ keyed_head b id (drop v b) k
+pub keyed_absent : (b : List ℕ) (id v : ℕ) (k : Keyed) → k ≡ unopened → Err NoParen ≡ keyed_head b id (drop v b) k
 keyed_absent b id v k q = rw q refl
 
 -- where a data record's keyword and `(` are found, the head has their places
-pub keyed_found : (b : List ℕ) (id v e o : ℕ) (k : Keyed) → v ≤ length b → e ≤ length b → o ≤ length b → k ≡ opened (drop e b) (drop o b) → Simple id v e o ≡ keyed_head b id (drop v b) k
+pub keyed_found : (b : List ℕ) (id v e o : ℕ) (k : Keyed) → v ≤ length b → e ≤ length b → o ≤ length b → k ≡ opened (drop e b) (drop o b) → Ok (Simple id v e o) ≡ keyed_head b id (drop v b) k
 keyed_found b id v e o k hv he ho q = rw (q, place_drop b v hv, place_drop b e he, place_drop b o ho) refl
 
 -- the head of a header record without `(` is reason 1
-pub named_absent : (b : List ℕ) (v : ℕ) → drop v b ≡ past_gap b → keyword (drop v b) ≡ unopened → Bad 1 ≡ header_head b
+pub named_absent : (b : List ℕ) (v : ℕ) → drop v b ≡ past_gap b → keyword (drop v b) ≡ unopened → Err NoHeaderParen ≡ header_head b
 unfolding header_head
 named_absent b v p q = rw (← p, q) refl
 
 -- where a header record's keyword and `(` are found, the head has their places
-pub named_found : (b : List ℕ) (v e o : ℕ) → drop v b ≡ past_gap b → v ≤ length b → e ≤ length b → o ≤ length b → keyword (drop v b) ≡ opened (drop e b) (drop o b) → Simple 0 v e o ≡ header_head b
+pub named_found : (b : List ℕ) (v e o : ℕ) → drop v b ≡ past_gap b → v ≤ length b → e ≤ length b → o ≤ length b → keyword (drop v b) ≡ opened (drop e b) (drop o b) → Ok (record { start = v; end = e; opening = o }) ≡ header_head b
 unfolding header_head
 named_found b v e o p hv he ho q = rw (← p, q, place_drop b v hv, place_drop b e he, place_drop b o ho) refl
 
 -- the head of an empty data record is reason 2
-pub data_none : (b : List ℕ) → length b ≡ 0 → Bad 2 ≡ data_head b
+pub data_none : (b : List ℕ) → length b ≡ 0 → Err NoHash ≡ data_head b
 unfolding data_head
 data_none [] h = refl
 data_none (c ∷ r) h = absurd (omega arith)
 
 module _ (b : List ℕ) (h : 0 < length b) where
   -- the head of a data record that does not begin with `#` is reason 2
-  pub data_other : (get_or b 0 0 ≡ 35 → ⊥) → Bad 2 ≡ data_head b
+  pub data_other : (get_or b 0 0 ≡ 35 → ⊥) → Err NoHash ≡ data_head b
   unfolding data_head
   data_other k = go b k h
     where
-      go : (l : List ℕ) → (get_or l 0 0 ≡ 35 → ⊥) → 0 < length l → Bad 2 ≡ data_head l
+      go : (l : List ℕ) → (get_or l 0 0 ≡ 35 → ⊥) → 0 < length l → Err NoHash ≡ data_head l
       go [] k h = refl
       go (c ∷ r) k h = rw (ne_eqb c 35 k) refl
 
   -- the head of a data record with an id above 4294967295 is reason 3
-  pub data_over : get_or b 0 0 ≡ 35 → 4294967295 < (number_from 0 (drop 1 b)).value → Bad 3 ≡ data_head b
+  pub data_over : get_or b 0 0 ≡ 35 → 4294967295 < (number_from 0 (drop 1 b)).value → Err LargeId ≡ data_head b
   unfolding data_head
   data_over k n = go b k h n
     where
-      go : (l : List ℕ) → get_or l 0 0 ≡ 35 → 0 < length l → 4294967295 < (number_from 0 (drop 1 l)).value → Bad 3 ≡ data_head l
+      go : (l : List ℕ) → get_or l 0 0 ≡ 35 → 0 < length l → 4294967295 < (number_from 0 (drop 1 l)).value → Err LargeId ≡ data_head l
       go [] k h n = absurd (omega arith)
       go (c ∷ r) k h n = rw (eq-eqb c 35 k, lt-ltb _ _ n) refl
 
   -- the head of a data record with no digits after its `#` is reason 4
-  pub data_empty : (n : ℕ) → get_or b 0 0 ≡ 35 → number_from 0 (drop 1 b) ≡ number_and_rest n (drop 1 b) → n ≤ 4294967295 → Bad 4 ≡ data_head b
+  pub data_empty : (n : ℕ) → get_or b 0 0 ≡ 35 → number_from 0 (drop 1 b) ≡ number_and_rest n (drop 1 b) → n ≤ 4294967295 → Err NoDigits ≡ data_head b
   unfolding data_head
   data_empty n k q m = go b k h q
     where
-      go : (l : List ℕ) → get_or l 0 0 ≡ 35 → 0 < length l → number_from 0 (drop 1 l) ≡ number_and_rest n (drop 1 l) → Bad 4 ≡ data_head l
+      go : (l : List ℕ) → get_or l 0 0 ≡ 35 → 0 < length l → number_from 0 (drop 1 l) ≡ number_and_rest n (drop 1 l) → Err NoDigits ≡ data_head l
       go [] k h q = absurd (omega arith)
       go (c ∷ r) k h q = rw (eq-eqb c 35 k, q, le-ltb _ _ m, eq-eqb (length r) (length r) refl) refl
 

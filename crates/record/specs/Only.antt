@@ -1,10 +1,8 @@
 -- "that two allowed answers coincide is proved": a rest of a text begins at one place, and digits are one number. Assumes nothing.
-use Rattle.std.specs.Prelude.{ℕ, ◌≤◌, ◌≡◌, refl, List, length, drop}
+use Rattle.std.specs.Prelude.{ℕ, ◌≤◌, ◌≡◌, refl, List, length, drop, Option, Some, None}
 use Rattle.std.proofs.Common.{sym, ◌∙◌, ap, arith, length-drop}
 use Rattle.lex.specs.Byte.{white}
 use Rattle.record.specs.Text.{past, trail, NumberAndRest, number_and_rest, Numbered}
-use Rattle.record.specs.declared.Number.{Number}
-use Rattle.record.specs.declared.Number.TheVariants.{Over, Value}
 
 -- a rest begins at one place
 place_only : (b l : List ℕ) (p q : ℕ) → drop p b ≡ l → p ≤ length b → drop q b ≡ l → q ≤ length b → p ≡ q
@@ -19,11 +17,11 @@ pub trail_one : (b : List ℕ) (from p q : ℕ) → drop p b ≡ trail (drop fro
 trail_one b from = place_only b (trail (drop from b))
 
 -- `digits_at`
-pub digits_one : (b : List ℕ) (from : ℕ) (x y : Number) → Numbered b from x → Numbered b from y → x ≡ y
-digits_one b from Over Over h k = refl
-digits_one b from Over (Value n p) h (e, l, m, o) = let v = ap (λ (d : NumberAndRest). d.value) e in absurd (omega (arith, v))
-digits_one b from (Value n p) Over (e, l, m, o) h = let v = ap (λ (d : NumberAndRest). d.value) e in absurd (omega (arith, v))
-digits_one b from (Value n p) (Value k q) (e, l, m, o) (f, i, j, c) =
+pub digits_one : (b : List ℕ) (from : ℕ) (x y : Option (ℕ × ℕ)) → Numbered b from x → Numbered b from y → x ≡ y
+digits_one b from None None h k = refl
+digits_one b from None (Some (n, p)) h (e, l, m, o) = let v = ap (λ (d : NumberAndRest). d.value) e in absurd (omega (arith, v))
+digits_one b from (Some (n, p)) None (e, l, m, o) h = let v = ap (λ (d : NumberAndRest). d.value) e in absurd (omega (arith, v))
+digits_one b from (Some (n, p)) (Some (k, q)) (e, l, m, o) (f, i, j, c) =
     let g : number_and_rest n (drop p b) ≡ number_and_rest k (drop q b) = sym e ∙ f in
     let u : n ≡ k = ap (λ (d : NumberAndRest). d.value) g in
     let r = ap (λ (d : NumberAndRest). length d.rest) g in

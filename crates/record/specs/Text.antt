@@ -1,13 +1,9 @@
 -- Parts of a record's text: what stands before a rest, what is left past bytes of a kind, digits and their number, a keyword.
 -- Assumes nothing.
-use Rattle.std.specs.Prelude.{ℕ, ◌+◌, ◌*◌, ◌-◌, ◌≤◌, ◌<◌, max, ◌≡◌, Bool, List, [], ◌∷◌, eqb, length, take, drop}
+use Rattle.std.specs.Prelude.{ℕ, ◌+◌, ◌*◌, ◌-◌, ◌≤◌, ◌<◌, max, ◌≡◌, Bool, List, [], ◌∷◌, eqb, length, take, drop, Option, Some, None}
 use Rattle.common.specs.Pick.{pick}
 use Rattle.lex.specs.Byte.{white}
 use Rattle.common.specs.Walk.{Turn, stop, on, walk}
-use Rattle.record.specs.declared.Number.{Number}
-use Rattle.record.specs.declared.Number.TheVariants.{Over, Value}
-use Rattle.record.specs.declared.Key.{Key}
-use Rattle.record.specs.declared.Key.TheVariants.{Absent, Found}
 use Rattle.record.specs.Byte.{digit}
 
 -- the bytes of xs before its rest r
@@ -65,11 +61,11 @@ unfoldable pub trail : List ℕ → List ℕ
 trail xs = walk trail_turn (λ e. e) xs xs
 
 -- what the code's answer says of the digits from a place on: "id above 4294967295", or the number and the place after them
-abbrev pub Numbered : List ℕ → ℕ → Number → Type 0
-Numbered b from Over = 4294967295 < (number_from 0 (drop from b)).value
-Numbered b from (Value n p) = (number_from 0 (drop from b) ≡ number_and_rest n (drop p b)) × (from ≤ p) × (p ≤ max from (length b)) × (n ≤ 4294967295)
+abbrev pub Numbered : List ℕ → ℕ → Option (ℕ × ℕ) → Type 0
+Numbered b from None = 4294967295 < (number_from 0 (drop from b)).value
+Numbered b from (Some (n, p)) = (number_from 0 (drop from b) ≡ number_and_rest n (drop p b)) × (from ≤ p) × (p ≤ max from (length b)) × (n ≤ 4294967295)
 
 -- what the code's answer says of the keyword from a place on: there is no `(`, or where the keyword ends and the `(` stands
-abbrev pub KeyedAt : List ℕ → ℕ → Key → Type 0
-KeyedAt b from Absent = keyword (drop from b) ≡ unopened
-KeyedAt b from (Found e o) = (keyword (drop from b) ≡ opened (drop e b) (drop o b)) × (e ≤ length b) × (o ≤ length b)
+abbrev pub KeyedAt : List ℕ → ℕ → Option (ℕ × ℕ) → Type 0
+KeyedAt b from None = keyword (drop from b) ≡ unopened
+KeyedAt b from (Some (e, o)) = (keyword (drop from b) ≡ opened (drop e b) (drop o b)) × (e ≤ length b) × (o ≤ length b)

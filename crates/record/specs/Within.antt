@@ -1,21 +1,27 @@
 -- The places of a head lie in the record's text. Assumes nothing.
-use Rattle.std.specs.Prelude.{ℕ, ◌≤◌, ◌≡◌, Bool, true, false, List, [], ◌∷◌, eqb, ltb, length}
-use Rattle.std.proofs.Common.{arith}
+use Rattle.std.specs.Prelude.{ℕ, ◌≤◌, Bool, true, false, List, [], ◌∷◌, eqb, ltb, length, Result, Ok, Err}
 use Rattle.common.specs.Pick.{pick}
 use Rattle.lex.specs.Place.{place_within}
 use Rattle.record.specs.Text.{past_gap, NumberAndRest, number_from, Keyed, opened, unopened, keyword}
 use Rattle.record.specs.Head.{keyed_head, value_head, equal_head, id_head, hash_head, data_head, named_head, header_head}
 use Rattle.record.specs.declared.Head.{Head}
-use Rattle.record.specs.declared.Head.TheVariants.{Bad, Complex, Simple}
+use Rattle.record.specs.declared.Head.TheVariants.{Complex, Simple}
+use Rattle.record.specs.declared.Named.{Named}
+use Rattle.error.specs.declared.Reason.{Reason}
 
 -- each place of the head is at most n
-abbrev pub HeadWithin : ℕ → Head → Type 0
-HeadWithin n (Bad why) = Unit {0}
-HeadWithin n (Complex id o) = o ≤ n
-HeadWithin n (Simple id a z o) = (a ≤ n) × (z ≤ n) × (o ≤ n)
+abbrev pub HeadWithin : ℕ → Result Head Reason → Type 0
+HeadWithin n (Err why) = Unit {0}
+HeadWithin n (Ok (Complex id o)) = o ≤ n
+HeadWithin n (Ok (Simple id a z o)) = (a ≤ n) × (z ≤ n) × (o ≤ n)
+
+-- each place of a header record's head is at most n
+abbrev pub NamedWithin : ℕ → Result Named Reason → Type 0
+NamedWithin n (Err why) = Unit {0}
+NamedWithin n (Ok h) = (h.start ≤ n) × (h.end ≤ n) × (h.opening ≤ n)
 
 -- where each of two heads has its places within n, so has the one that is picked
-either : (n : ℕ) (t : Bool) (g h : Head) → HeadWithin n g → HeadWithin n h → HeadWithin n (pick t g h)
+either : (n : ℕ) (t : Bool) (g h : Result Head Reason) → HeadWithin n g → HeadWithin n h → HeadWithin n (pick t g h)
 either n true g h p q = p
 either n false g h p q = q
 
@@ -45,20 +51,11 @@ pub data_within : (b : List ℕ) → HeadWithin (length b) (data_head b)
 unfolding data_head
 data_within b = hash_within b b
 
-named_within : (b v : List ℕ) (k : Keyed) → HeadWithin (length b) (named_head b v k)
+named_within : (b v : List ℕ) (k : Keyed) → NamedWithin (length b) (named_head b v k)
 named_within b v unopened = tt
 named_within b v (opened e o) = (place_within b v, place_within b e, place_within b o)
 
 -- the places of a header record's head lie in its text
-pub header_within : (b : List ℕ) → HeadWithin (length b) (header_head b)
+pub header_within : (b : List ℕ) → NamedWithin (length b) (header_head b)
 unfolding header_head
 header_within b = named_within b (past_gap b) (keyword (past_gap b))
-
--- no header record is complex
-pub header_never_complex : (b : List ℕ) (id o : ℕ) → header_head b ≡ Complex id o → ⊥
-unfolding header_head
-header_never_complex b id o = go (keyword (past_gap b))
-  where
-    go : (k : Keyed) → named_head b (past_gap b) k ≡ Complex id o → ⊥
-    go unopened e = let z : ◌≡◌ {A = ℕ} 0 1 = cc in omega arith
-    go (opened l m) e = let z : ◌≡◌ {A = ℕ} 0 1 = cc in omega arith

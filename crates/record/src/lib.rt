@@ -11,8 +11,10 @@ ghost use Rattle.record.specs.Byte.{digit, upper};
 ghost use Rattle.record.specs.Word.{same_bytes, is_word, opens_data, word_in, word_of};
 ghost use Rattle.record.specs.Head.{data_head, equal_head, value_head, header_head};
 
+use error::Reason;
+
 // The words of document 01 that a record's text can be.
-#[derive(Clone, Copy)]
+#[derive(Clone, Copy, PartialEq, Eq)]
 pub enum Word {
     Header,
     Data,
@@ -21,13 +23,20 @@ pub enum Word {
     Other,
 }
 
-// What stands before the arguments: a reason of refusal 7; the id and the `(` of a complex record; or the id (0 for a header
-// record), the keyword's start and end, and the `(`.
-#[derive(Clone, Copy)]
+// What stands before a data record's arguments: the id and the `(` of a complex record; or the id, the keyword's start and end, and
+// the `(`.
+#[derive(Clone, Copy, PartialEq, Eq)]
 pub enum Head {
-    Bad(u8),
     Complex(u32, usize),
     Simple(u32, usize, usize, usize),
+}
+
+// What stands before a header record's arguments: the keyword's start and end, and the `(`.
+#[derive(Clone, Copy, PartialEq, Eq)]
+pub struct Named {
+    pub start: usize,
+    pub end: usize,
+    pub opening: usize,
 }
 
 // The place of the first byte from `from` on that is not white, or the text's length.
@@ -58,15 +67,8 @@ pub fn is_digit(c: u8) -> bool
     (48 <= c) & (c <= 57)
 }
 
-// An id's digits: their number and the place after them, or that the number is above the largest id.
-#[derive(Clone, Copy)]
-pub enum Number {
-    Over,
-    Value(u32, usize),
-}
-
-// The id whose digits begin at `from`.
-pub fn digits_at(b: &[u8], from: usize) -> Number
+// The id whose digits begin at `from`, and the place after them; none where the number is above the largest id.
+pub fn digits_at(b: &[u8], from: usize) -> Option<(u32, usize)>
     ensures { Numbered b.now from result }
 {
     let mut n: u64 = 0;
@@ -74,22 +76,15 @@ pub fn digits_at(b: &[u8], from: usize) -> Number
     while i < b.len() {
         let c = b[i];
         if !is_digit(c) {
-            return Number::Value(n as u32, i);
+            return Some((n as u32, i));
         }
         n = n * 10 + ((c - 48) as u64);
         if 4294967295 < n {
-            return Number::Over;
+            return None;
         }
         i += 1;
     }
-    Number::Value(n as u32, i)
-}
-
-// The end of a keyword and the place of the `(` after it, or no `(`.
-#[derive(Clone, Copy)]
-enum Key {
-    Absent,
-    Found(usize, usize),
+    Some((n as u32, i))
 }
 
 // The first byte from `from` on that may be white or a `(`, or the length: the bytes above `(`, as those of a name, are neither.
@@ -108,7 +103,8 @@ fn name_run(b: &[u8], from: usize) -> usize
     i
 }
 
-fn keyword_at(b: &[u8], from: usize) -> Key
+// The end of the keyword that begins at `from`, and the place of the `(` after it; none where there is no `(`.
+fn keyword_at(b: &[u8], from: usize) -> Option<(usize, usize)>
     requires { from ≤ length b.now }
     ensures { KeyedAt b.now from result }
 {
@@ -117,14 +113,14 @@ fn keyword_at(b: &[u8], from: usize) -> Key
     while i < b.len() {
         let c = b[i];
         if c == b'(' {
-            return Key::Found(end, i);
+            return Some((end, i));
         }
         i += 1;
         if !lex::is_space(c) {
             end = i;
         }
     }
-    Key::Absent
+    None
 }
 
 // The place after the last byte from `from` on that is not white, or `from`, or the length where that is less; sought from the end.
@@ -218,53 +214,53 @@ pub fn section_word(b: &[u8]) -> Word
 }
 
 // What stands from the value on.
-fn value_head(b: &[u8], id: u32, from: usize) -> Head
+fn value_head(b: &[u8], id: u32, from: usize) -> Result<Head, Reason>
     requires { from ≤ length b.now }
     ensures { result ≡ value_head b.now id (past white (drop from b.now)) }
 {
     let v = past_space(b, from);
     if b.len() <= v {
-        return Head::Bad(6);
+        return Err(Reason::NoValue);
     }
     if b[v] == b'(' {
-        return Head::Complex(id, v);
+        return Ok(Head::Complex(id, v));
     }
     match keyword_at(b, v) {
-        Key::Absent => Head::Bad(7),
-        Key::Found(e, o) => Head::Simple(id, v, e, o),
+        None => Err(Reason::NoParen),
+        Some((e, o)) => Ok(Head::Simple(id, v, e, o)),
     }
 }
 
 // What stands from the `=` on.
-fn equal_head(b: &[u8], id: u32, from: usize) -> Head
+fn equal_head(b: &[u8], id: u32, from: usize) -> Result<Head, Reason>
     requires { from ≤ length b.now }
     ensures { result ≡ equal_head b.now id (past white (drop from b.now)) }
 {
     let q = past_space(b, from);
     if b.len() <= q {
-        return Head::Bad(5);
+        return Err(Reason::NoEqual);
     }
     if b[q] != b'=' {
-        return Head::Bad(5);
+        return Err(Reason::NoEqual);
     }
     value_head(b, id, q + 1)
 }
 
 // The head of a data record's text.
-pub fn data_head(b: &[u8]) -> Head
+pub fn data_head(b: &[u8]) -> Result<Head, Reason>
     ensures { result ≡ data_head b.now }
 {
     if b.len() == 0 {
-        return Head::Bad(2);
+        return Err(Reason::NoHash);
     }
     if b[0] != b'#' {
-        return Head::Bad(2);
+        return Err(Reason::NoHash);
     }
     match digits_at(b, 1) {
-        Number::Over => Head::Bad(3),
-        Number::Value(id, at) => {
+        None => Err(Reason::LargeId),
+        Some((id, at)) => {
             if at == 1 {
-                return Head::Bad(4);
+                return Err(Reason::NoDigits);
             }
             equal_head(b, id, at)
         }
@@ -272,13 +268,17 @@ pub fn data_head(b: &[u8]) -> Head
 }
 
 // The head of a header record's text.
-pub fn header_head(b: &[u8]) -> Head
+pub fn header_head(b: &[u8]) -> Result<Named, Reason>
     ensures { result ≡ header_head b.now }
 {
     let v = past_space(b, 0);
     match keyword_at(b, v) {
-        Key::Absent => Head::Bad(1),
-        Key::Found(e, o) => Head::Simple(0, v, e, o),
+        None => Err(Reason::NoHeaderParen),
+        Some((end, opening)) => Ok(Named {
+            start: v,
+            end,
+            opening,
+        }),
     }
 }
 

@@ -11,14 +11,14 @@ pub returns-then-b-v-eq40 : goal.returns-then-b-v-eq40
 returns-then-b-v-eq40 c = let a = c.args in
     value_complex a.b.now a.id c.past_space-v.result _ c.past_space-v.ensures.b_value (omega arith) c.if-b-v-eq40.true
 
-pub returns-in-Absent : goal.returns-in-Absent
-returns-in-Absent c = let a = c.args in
-    let k = rw c.in-Absent.is at c.keyword_at.ensures in
+pub returns-in-None : goal.returns-in-None
+returns-in-None c = let a = c.args in
+    let k = rw c.in-None.is at c.keyword_at.ensures in
     keyed_absent a.b.now a.id c.past_space-v.result _ k
     ∙ value_keyed a.b.now a.id c.past_space-v.result _ c.past_space-v.ensures.b_value (omega arith) c.if-b-v-eq40.false
 
-pub returns-in-Found : goal.returns-in-Found
-returns-in-Found c = let a = c.args in
-    let k = rw c.in-Found.is at c.keyword_at.ensures in
+pub returns-in-Some : goal.returns-in-Some
+returns-in-Some c = let a = c.args in
+    let k = rw c.in-Some.is at c.keyword_at.ensures in
     keyed_found a.b.now a.id c.past_space-v.result _ _ _ (omega arith) k.1 k.2 k.0
     ∙ value_keyed a.b.now a.id c.past_space-v.result _ c.past_space-v.ensures.b_value (omega arith) c.if-b-v-eq40.false
