@@ -273,7 +273,6 @@ headerform_is b = sole (HeaderForm b) (λ h. headerform_only) (header_comes b)
 
 -- two texts of which the test `same_bytes` holds are equal
 pub same_is : (x y : List ℕ) → same_bytes x y ≡ true → x ≡ y
-unfolding same_bytes
 same_is [] [] h = refl
 same_is [] (b ∷ y) h = clash (cc)
 same_is (a ∷ x) [] h = clash (cc)
@@ -285,7 +284,6 @@ same_is (a ∷ x) (b ∷ y) h = go (eqb a b) refl (same_is x y)
 
 -- the test `same_bytes` holds of a text and itself
 pub same_self : (x : List ℕ) → same_bytes x x ≡ true
-unfolding same_bytes
 same_self [] = refl
 same_self (a ∷ x) = rw (eq-eqb a a refl) (same_self x)
 
@@ -334,7 +332,6 @@ map_take (suc n) (c ∷ t) = ap (λ (l : List ℕ). upper c ∷ l) (map_take n t
 
 -- what a trimmed text says by the rules is what `word_in` computes
 says_only : {t : List ℕ} {w : Word} → Says t w → w ≡ word_in t
-unfolding same_bytes
 says_only (Says.headed t h) = rw h
 says_only (Says.data_alone t h) = rw h
 says_only (Says.data_opened d w r h a) = rw (opens_only d w r h a, map-append, h)

@@ -7,7 +7,7 @@ use Rattle.record.specs.Form.{Gap, Trimmed}
 use Rattle.record.specs.FormRight.{trimmed_is}
 use Rattle.common.specs.Walk.{walk}
 use Rattle.record.specs.Text.{past, trail}
-use Rattle.record.specs.Word.{same_bytes, word_of}
+use Rattle.record.specs.Word.{word_of}
 use Rattle.record.specs.declared.Word.TheVariants.{Other}
 
 -- a text that begins with `#` begins with it when trimmed
@@ -22,7 +22,7 @@ hash_trimmed {t} {u} f = go f.front u f.back f.shape f.before f.after
 
 -- a text that begins with `#` is no section word
 pub hash_other : (t : List ℕ) → word_of (35 ∷ t) ≡ Other
-unfolding word_of same_bytes
+unfolding word_of
 hash_other t = let (u, e) = hash_trimmed (trimmed_is (35 ∷ t)) in rw e refl
 
 -- a text with `#` at its first place is no section word
@@ -32,6 +32,6 @@ hash_word (c ∷ t) h e = rw e (sym (hash_other t))
 
 -- an empty text is no section word
 pub empty_word : (b : List ℕ) → length b ≡ 0 → Other ≡ word_of b
-unfolding word_of same_bytes past trail walk
+unfolding word_of past trail walk
 empty_word [] h = refl
 empty_word (c ∷ t) h = absurd (omega arith)

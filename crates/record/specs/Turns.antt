@@ -57,7 +57,6 @@ number_grows n (c ∷ r) = go (digit c) (number_grows (n * 10 + (c - 48)) r)
 
 -- texts of different lengths are not the same
 pub same_lengths : (x y : List ℕ) → (length x ≡ length y → ⊥) → same_bytes x y ≡ false
-unfolding same_bytes
 same_lengths [] [] h = absurd (h refl)
 same_lengths [] (b ∷ y) h = refl
 same_lengths (a ∷ x) [] h = refl
@@ -71,10 +70,8 @@ same_lengths (a ∷ x) (b ∷ y) h = go (eqb a b) (same_lengths x y (λ e. h (om
 module _ (f : ℕ → ℕ) (x y : List ℕ) (i : ℕ) (a : Bool) (h : i < length x) (k : i < length y) where
   -- texts that differ at an index, the first seen through f, are not the same from there on
   pub same_stops : eqb (f (get_or x i 0)) (get_or y i 0) ≡ false → same_bytes (map f (drop i x)) (drop i y) ≡ a → false ≡ a
-  unfolding same_bytes
   same_stops e inv = sym (rw (split x i h, split y i k, e) refl) ∙ inv
 
   -- texts that agree at an index, the first seen through f, are the same from there on just where they are from the next on
   pub same_goes : eqb (f (get_or x i 0)) (get_or y i 0) ≡ true → same_bytes (map f (drop i x)) (drop i y) ≡ a → same_bytes (map f (drop (i + 1) x)) (drop (i + 1) y) ≡ a
-  unfolding same_bytes
   same_goes e inv = sym (rw (split x i h, split y i k, e) refl) ∙ inv

@@ -1,18 +1,16 @@
 -- Document 01, 'Reading the file': the section words.
 -- Assumes nothing.
-use Rattle.std.specs.Prelude.{ℕ, Bool, true, false, ◌&&◌, ◌||◌, List, [], ◌∷◌, map, eqb, take, drop}
+use Rattle.std.specs.Prelude.{ℕ, Bool, false, ◌&&◌, ◌||◌, List, [], ◌∷◌, map, eqb, take, drop}
+use Rattle.std.specs.Cmp.Lexicographic.{pointwise}
 use Rattle.common.specs.Pick.{pick}
 use Rattle.record.specs.Text.{before, past_gap, trail}
 use Rattle.record.specs.declared.Word.{Word}
 use Rattle.record.specs.declared.Word.TheVariants.{Header, Data, EndSection, EndFile, Other}
 use Rattle.record.specs.Byte.{upper}
 
--- the test whether two lists have the same bytes
-unfoldable pub same_bytes : List ℕ → List ℕ → Bool
-same_bytes [] [] = true
-same_bytes [] (b ∷ y) = false
-same_bytes (a ∷ x) [] = false
-same_bytes (a ∷ x) (b ∷ y) = eqb a b && same_bytes x y
+-- the test whether two lists have the same bytes, as `==` of the code makes it
+abbrev pub same_bytes : List ℕ → List ℕ → Bool
+same_bytes x y = pointwise eqb x y
 
 -- "Trimmed of whitespace": what is left of a text
 abbrev pub trimmed : List ℕ → List ℕ

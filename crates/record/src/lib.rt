@@ -8,7 +8,7 @@ ghost use Rattle.std.specs.Prelude.{◌≡◌, true, false, ◌≤◌, ◌<◌, 
 ghost use Rattle.lex.specs.Byte.{white};
 ghost use Rattle.record.specs.Text.{past, trail, keyword, Numbered, KeyedAt};
 ghost use Rattle.record.specs.Byte.{digit, upper};
-ghost use Rattle.record.specs.Word.{same_bytes, is_word, opens_data, word_in, word_of};
+ghost use Rattle.record.specs.Word.{is_word, opens_data, word_in, word_of};
 ghost use Rattle.record.specs.Head.{data_head, equal_head, value_head, header_head};
 
 use error::Reason;
@@ -64,7 +64,7 @@ fn past_space(b: &[u8], from: usize) -> usize
 pub fn is_digit(c: u8) -> bool
     ensures { result ≡ digit c }
 {
-    (48 <= c) & (c <= 57)
+    c.is_ascii_digit()
 }
 
 // The id whose digits begin at `from`, and the place after them; none where the number is above the largest id.
@@ -143,7 +143,7 @@ pub fn trail_at(b: &[u8], from: usize) -> usize
 pub fn upper_of(c: u8) -> u8
     ensures { result ≡ upper c }
 {
-    if (97 <= c) & (c <= 122) { c - 32 } else { c }
+    c.to_ascii_uppercase()
 }
 
 // Whether a text is a word that is written in capitals, letters in either case.
@@ -153,12 +153,10 @@ pub fn is_word(t: &[u8], w: &[u8]) -> bool
     if t.len() != w.len() {
         return false;
     }
-    let mut i = 0;
-    while i < t.len() {
+    for i in 0..t.len() {
         if upper_of(t[i]) != w[i] {
             return false;
         }
-        i += 1;
     }
     true
 }
@@ -280,23 +278,6 @@ pub fn header_head(b: &[u8]) -> Result<Named, Reason>
             opening,
         }),
     }
-}
-
-// Whether two texts have the same bytes.
-pub fn same_bytes(x: &[u8], y: &[u8]) -> bool
-    ensures { result ≡ same_bytes x.now y.now }
-{
-    if x.len() != y.len() {
-        return false;
-    }
-    let mut i = 0;
-    while i < x.len() {
-        if x[i] != y[i] {
-            return false;
-        }
-        i += 1;
-    }
-    true
 }
 
 // How many white bytes a text begins with.

@@ -1,6 +1,5 @@
 use Rattle.common.specs.Lists.{drop_end}
 use Rattle.record.specs.Turns.{same_lengths, same_stops, same_goes}
-use Rattle.record.specs.Word.{same_bytes}
 use Rattle.record.specs.Byte.{upper}
 use lib.ListN.{length-map}
 use borrow.Author.Tests.{eq-eqb, ne_eqb}
@@ -26,6 +25,5 @@ loop-i-preserved c = let a = c.args in
     (omega arith, same_goes upper a.t.now a.w.now c.loop-i.i _ (omega arith) (omega arith) (eq-eqb _ _ (sym c.upper_of.ensures ∙ c.if-upper_of-w.false)) c.loop-i.invariant.1)
 
 pub returns : goal.returns
-unfolding same_bytes
 returns c = let a = c.args in
     sym (rw (drop_end a.t.now c.loop-i.i (omega arith), drop_end a.w.now c.loop-i.i (omega arith)) refl) ∙ c.loop-i.invariant.1

@@ -3,11 +3,8 @@ use Rattle.record.specs.Byte.{upper}
 use lib.ListN.{length, drop}
 use mathlib.Core.List.{map}
 use mathlib.Core.Path.{◌≡◌}
-use Prim.Native.Nat.{◌-◌, ◌≤◌}
+use Prim.Native.Nat.{◌≤◌}
 use Rattle.record.proofs.is_word.Given as goal
 
 abbrev pub invariant-loop-i : goal.invariant-loop-i
 invariant-loop-i l = (l.i ≤ length l.t) × (same_bytes (map upper (drop l.i l.t)) (drop l.i l.w) ≡ is_word l.t l.w)
-
-abbrev pub decreases-loop-i : goal.decreases-loop-i
-decreases-loop-i l = length l.t - l.i
