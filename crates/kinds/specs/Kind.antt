@@ -1,7 +1,7 @@
 -- The kind of a keyword, computed; Rules.antt has the kinds and their names.
 -- Assumes nothing.
-use Rattle.std.specs.Prelude.{ℕ, ◌≡◌, refl, Bool, true, false, List, [], ◌∷◌, map, ◌⊎◌, get_or}
-use Rattle.std.proofs.Common.{sym, ◌∙◌, ap, subst, inl, inr}
+use Rattle.std.specs.Prelude.{ℕ, ◌+◌, ◌<◌, ◌≡◌, refl, Bool, true, false, List, [], ◌∷◌, length, map, drop, ◌⊎◌, get_or}
+use Rattle.std.proofs.Common.{sym, ◌∙◌, ap, subst, inl, inr, add-one, drop-cons}
 use Rattle.common.specs.Pick.{pick}
 use Rattle.common.specs.Compare.{clash}
 use Rattle.record.specs.Byte.{upper}
@@ -38,6 +38,16 @@ kind_among (k ∷ ks) t = pick (is_word t (bytes (name_of k))) k (kind_among ks 
 -- the kind of a keyword
 unfoldable pub kind_of_keyword : List ℕ → Kind
 kind_of_keyword t = kind_among named_kinds t
+
+-- the search at a place of a list, by the test whether the text is the name of the kind there
+module _ (ks : List Kind) (i : ℕ) (d : Kind) (t n : List ℕ) (b : Bool) (h : i < length ks) (e : n ≡ bytes (name_of (get_or ks i d))) (f : b ≡ is_word t n) where
+  -- where it is, that kind is found
+  pub kind_here : b ≡ true → get_or ks i d ≡ kind_among (drop i ks) t
+  kind_here k = rw (drop-cons ks i d h, ← e, ← f, k) refl
+
+  -- where it is not, the search goes on after it
+  pub kind_next : b ≡ false → kind_among (drop (i + 1) ks) t ≡ kind_among (drop i ks) t
+  kind_next k = rw (drop-cons ks i d h, ← e, ← f, k, add-one) refl
 
 -- the kind at a place of the list of kinds
 kind_at : ℕ → Kind
@@ -120,7 +130,6 @@ kind_by (k ∷ ks) u = pick (same_bytes u (bytes (name_of k))) k (kind_by ks u)
 
 -- the search by a text in capitals finds each of the ten kinds by its name
 by_name : (k : Kind) → NamedKind k → kind_by named_kinds (bytes (name_of k)) ≡ k
-unfolding same_bytes
 by_name GeometricRepresentationContext n = refl
 by_name GlobalUnitAssignedContext n = refl
 by_name GlobalUncertaintyAssignedContext n = refl

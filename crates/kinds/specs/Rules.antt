@@ -1,7 +1,7 @@
 -- The kinds of records that the units need, by their keywords, as a rule that names no search; and what the answers about a kind's name say.
 -- Assumes nothing.
 -- Definitions to be believed: no law, and nothing computed that no theorem ties (docs/BELIEVE.md).
-use Rattle.std.specs.Prelude.{ℕ, List, ◌++◌, leb, length, drop}
+use Rattle.std.specs.Prelude.{ℕ, List, ◌++◌, leb, length, drop, Option, Some, None}
 use Prim.Native.String.{String}
 use Rattle.common.specs.Pick.{pick}
 use Rattle.error.specs.Refusal.{refusal, Told, good, bad}
@@ -21,8 +21,6 @@ use Rattle.kinds.specs.declared.Kind.TheVariants.{
   Complex,
   Other,
 }
-use Rattle.kinds.specs.declared.KindName.{KindName}
-use Rattle.kinds.specs.declared.KindName.TheVariants.{Bytes, Short}
 
 -- the keyword of a kind, in capitals; `(complex)` for a complex record, and none for the others
 abbrev pub name_of : Kind → String
@@ -75,9 +73,9 @@ rank_of Complex = 10
 rank_of Other = 11
 
 -- what the code's answer about a kind's name says: how many bytes; "16 output too short", at 0, since no parameter is read
-abbrev pub told_kind_name : KindName → Told ℕ
-told_kind_name (Bytes n) = good n
-told_kind_name Short = bad (refusal 16 0 0)
+abbrev pub told_kind_name : Option ℕ → Told ℕ
+told_kind_name (Some n) = good n
+told_kind_name None = bad (refusal 16 0 0)
 
 -- how many bytes a name takes in this room; "16 output too short"
 abbrev pub name_in : List ℕ → List ℕ → Told ℕ

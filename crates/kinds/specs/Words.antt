@@ -1,19 +1,25 @@
--- Two texts that are compared byte by byte, letters in either case: what one byte does, at an index of both.
+-- Two texts that are compared letters in either case: as capitals and as small letters they are the same just together.
 -- Assumes nothing.
-use Rattle.std.specs.Prelude.{ℕ, ◌+◌, ◌<◌, ◌≡◌, refl, Bool, true, false, List, map, eqb, length, drop, get_or}
-use Rattle.std.proofs.Math.Path.{sym}
-use Rattle.std.proofs.Common.{◌∙◌}
-use Rattle.common.specs.Lists.{split}
-use Rattle.record.specs.Word.{same_bytes}
+use Rattle.std.specs.Prelude.{ℕ, ◌≡◌, refl, List, map, [], ◌∷◌}
+use Rattle.std.proofs.Common.{ap₂, arith}
+use Rattle.std.specs.Char.{to_ascii_lowercase}
+use Rattle.std.proofs.lemmas.Bool.Decides.{nat_tests}
 use Rattle.record.specs.Byte.{upper}
 
-module _ (x y : List ℕ) (i : ℕ) (a : Bool) (h : i < length x) (k : i < length y) where
-  -- where the bytes at the index differ, letters in either case, the comparison fails
-  pub both_stops : eqb (upper (get_or x i 0)) (upper (get_or y i 0)) ≡ false → same_bytes (map upper (drop i x)) (map upper (drop i y)) ≡ a → false ≡ a
-  unfolding same_bytes
-  both_stops e inv = sym (rw (split x i h, split y i k, e) refl) ∙ inv
+-- a byte made small has the capital that it had
+upper_lower : (c : ℕ) → upper (to_ascii_lowercase c) ≡ upper c
+upper_lower c = grind (arith, nat_tests)
 
-  -- where the bytes at the index agree, letters in either case, the comparison goes on after them
-  pub both_goes : eqb (upper (get_or x i 0)) (upper (get_or y i 0)) ≡ true → same_bytes (map upper (drop i x)) (map upper (drop i y)) ≡ a → same_bytes (map upper (drop (i + 1) x)) (map upper (drop (i + 1) y)) ≡ a
-  unfolding same_bytes
-  both_goes e inv = sym (rw (split x i h, split y i k, e) refl) ∙ inv
+-- a byte made a capital has the small letter that it had
+lower_upper : (c : ℕ) → to_ascii_lowercase (upper c) ≡ to_ascii_lowercase c
+lower_upper c = grind (arith, nat_tests)
+
+-- a text made small has the capitals that it had
+pub uppers : (t : List ℕ) → map upper (map to_ascii_lowercase t) ≡ map upper t
+uppers [] = refl
+uppers (c ∷ t) = ap₂ ◌∷◌ (upper_lower c) (uppers t)
+
+-- a text made of capitals has the small letters that it had
+pub lowers : (t : List ℕ) → map to_ascii_lowercase (map upper t) ≡ map to_ascii_lowercase t
+lowers [] = refl
+lowers (c ∷ t) = ap₂ ◌∷◌ (lower_upper c) (lowers t)

@@ -4,14 +4,14 @@
 // own; its parts have kinds by their keywords.
 #![tactic(auto)]
 
-ghost use Rattle.std.specs.Prelude.{◌≡◌, map, eqb};
+ghost use Rattle.std.specs.Prelude.{◌≡◌, map};
 ghost use Rattle.common.specs.Bytes.{bytes};
 ghost use Rattle.record.specs.Word.{same_bytes};
 ghost use Rattle.record.specs.Byte.{upper};
 ghost use Rattle.kinds.specs.Kind.{kind_of_keyword};
-ghost use Rattle.kinds.specs.Rules.{name_of, rank_of, told_kind_name, name_in, name_after};
+ghost use Rattle.kinds.specs.Rules.{name_of, told_kind_name, name_in, name_after};
 
-#[derive(Clone, Copy)]
+#[derive(Clone, Copy, PartialEq, Eq)]
 pub enum Kind {
     GeometricRepresentationContext,
     GlobalUnitAssignedContext,
@@ -27,127 +27,71 @@ pub enum Kind {
     Other,
 }
 
-// A kind's name at the start of lent memory, in so many bytes; or that there is no room for it.
-#[derive(Clone, Copy)]
-pub enum KindName {
-    Bytes(usize),
-    Short,
+// The ten kinds that have a keyword.
+const NAMED: [Kind; 10] = [
+    Kind::GeometricRepresentationContext,
+    Kind::GlobalUnitAssignedContext,
+    Kind::GlobalUncertaintyAssignedContext,
+    Kind::LengthUnit,
+    Kind::PlaneAngleUnit,
+    Kind::SolidAngleUnit,
+    Kind::SiUnit,
+    Kind::ConversionBasedUnit,
+    Kind::UncertaintyMeasureWithUnit,
+    Kind::LengthMeasureWithUnit,
+];
+
+impl Kind {
+    // The keyword of a kind, in capitals; `(complex)` for a complex record, and the empty text for `Other`.
+    fn name(self) -> &'static [u8]
+        ensures { result.now ≡ bytes (name_of self) }
+    {
+        match self {
+            Kind::GeometricRepresentationContext => b"GEOMETRIC_REPRESENTATION_CONTEXT",
+            Kind::GlobalUnitAssignedContext => b"GLOBAL_UNIT_ASSIGNED_CONTEXT",
+            Kind::GlobalUncertaintyAssignedContext => b"GLOBAL_UNCERTAINTY_ASSIGNED_CONTEXT",
+            Kind::LengthUnit => b"LENGTH_UNIT",
+            Kind::PlaneAngleUnit => b"PLANE_ANGLE_UNIT",
+            Kind::SolidAngleUnit => b"SOLID_ANGLE_UNIT",
+            Kind::SiUnit => b"SI_UNIT",
+            Kind::ConversionBasedUnit => b"CONVERSION_BASED_UNIT",
+            Kind::UncertaintyMeasureWithUnit => b"UNCERTAINTY_MEASURE_WITH_UNIT",
+            Kind::LengthMeasureWithUnit => b"LENGTH_MEASURE_WITH_UNIT",
+            Kind::Complex => b"(complex)",
+            Kind::Other => b"",
+        }
+    }
 }
 
 // The kind of a keyword.
 pub fn intern(kw: &[u8]) -> Kind
     ensures { result ≡ kind_of_keyword kw.now }
 {
-    if record::is_word(kw, b"GEOMETRIC_REPRESENTATION_CONTEXT") {
-        return Kind::GeometricRepresentationContext;
-    }
-    if record::is_word(kw, b"GLOBAL_UNIT_ASSIGNED_CONTEXT") {
-        return Kind::GlobalUnitAssignedContext;
-    }
-    if record::is_word(kw, b"GLOBAL_UNCERTAINTY_ASSIGNED_CONTEXT") {
-        return Kind::GlobalUncertaintyAssignedContext;
-    }
-    if record::is_word(kw, b"LENGTH_UNIT") {
-        return Kind::LengthUnit;
-    }
-    if record::is_word(kw, b"PLANE_ANGLE_UNIT") {
-        return Kind::PlaneAngleUnit;
-    }
-    if record::is_word(kw, b"SOLID_ANGLE_UNIT") {
-        return Kind::SolidAngleUnit;
-    }
-    if record::is_word(kw, b"SI_UNIT") {
-        return Kind::SiUnit;
-    }
-    if record::is_word(kw, b"CONVERSION_BASED_UNIT") {
-        return Kind::ConversionBasedUnit;
-    }
-    if record::is_word(kw, b"UNCERTAINTY_MEASURE_WITH_UNIT") {
-        return Kind::UncertaintyMeasureWithUnit;
-    }
-    if record::is_word(kw, b"LENGTH_MEASURE_WITH_UNIT") {
-        return Kind::LengthMeasureWithUnit;
+    for kind in NAMED {
+        if record::is_word(kw, kind.name()) {
+            return kind;
+        }
     }
     Kind::Other
-}
-
-// A kind's place in the list of kinds.
-fn rank(k: Kind) -> u8
-    ensures { result ≡ rank_of k }
-{
-    match k {
-        Kind::GeometricRepresentationContext => 0,
-        Kind::GlobalUnitAssignedContext => 1,
-        Kind::GlobalUncertaintyAssignedContext => 2,
-        Kind::LengthUnit => 3,
-        Kind::PlaneAngleUnit => 4,
-        Kind::SolidAngleUnit => 5,
-        Kind::SiUnit => 6,
-        Kind::ConversionBasedUnit => 7,
-        Kind::UncertaintyMeasureWithUnit => 8,
-        Kind::LengthMeasureWithUnit => 9,
-        Kind::Complex => 10,
-        Kind::Other => 11,
-    }
-}
-
-// Whether two kinds are the same.
-pub fn same_kind(a: Kind, b: Kind) -> bool
-    ensures { result ≡ eqb (rank_of a) (rank_of b) }
-{
-    rank(a) == rank(b)
 }
 
 // Whether two texts are the same word, letters in either case.
 pub fn same_word(t: &[u8], w: &[u8]) -> bool
     ensures { result ≡ same_bytes (map upper t.now) (map upper w.now) }
 {
-    if t.len() != w.len() {
-        return false;
-    }
-    let mut i = 0;
-    while i < t.len() {
-        if record::upper_of(t[i]) != record::upper_of(w[i]) {
-            return false;
-        }
-        i += 1;
-    }
-    true
+    t.eq_ignore_ascii_case(w)
 }
 
-// Puts a name at the start of `out`, where there is room for it.
-fn put_name(out: &mut [u8], name: &[u8]) -> KindName
-    ensures result_value { told_kind_name result ≡ name_in name.now out.old }
-    ensures out_after { out.new ≡ name_after name.now out.old }
-{
-    if out.len() < name.len() {
-        return KindName::Short;
-    }
-    let mut i = 0;
-    while i < name.len() {
-        out[i] = name[i];
-        i += 1;
-    }
-    KindName::Bytes(i)
-}
-
-// All names in the order of `rank`, one after another.
-const NAMES: [u8; 228] =
-    *b"GEOMETRIC_REPRESENTATION_CONTEXTGLOBAL_UNIT_ASSIGNED_CONTEXTGLOBAL_UNCERTAINTY_ASSIGNED_CONTEXTLENGTH_UNITPLANE_ANGLE_UNITSOLID_ANGLE_UNITSI_UNITCONVERSION_BASED_UNITUNCERTAINTY_MEASURE_WITH_UNITLENGTH_MEASURE_WITH_UNIT(complex)";
-
-// Where each name begins, and where the last ends.
-const STARTS: [usize; 13] = [0, 32, 60, 95, 106, 122, 138, 145, 166, 195, 219, 228, 228];
-
-// A kind's keyword in capitals; `(complex)` for a complex record, and the empty text for `Other`. As the Rust's `as_str`, into lent
-// memory.
-pub fn as_str(k: Kind, out: &mut [u8]) -> KindName
+// A kind's name at the start of lent memory, in so many bytes; none where there is no room for it. As the Rust's `as_str`.
+pub fn as_str(k: Kind, out: &mut [u8]) -> Option<usize>
     ensures result_value { told_kind_name result ≡ name_in (bytes (name_of k)) out.old }
     ensures out_after { out.new ≡ name_after (bytes (name_of k)) out.old }
 {
-    let names = NAMES;
-    let starts = STARTS;
-    let row = rank(k) as usize;
-    let a = starts[row];
-    let e = starts[row + 1];
-    put_name(out, &names[a..e])
+    let name = k.name();
+    let n = name.len();
+    if out.len() < n {
+        return None;
+    }
+    out[..n].copy_from_slice(name);
+    Some(n)
 }
