@@ -1,19 +1,17 @@
 -- What the code's parts promise of eight bytes, joined to one number; that what `number` promises (Told.antt) allows one answer. Assumes nothing.
-use Rattle.std.specs.Prelude.{ℕ, ◌<◌, ◌^◌, ◌≡◌, refl, Bool, true, false, List, [], ◌∷◌}
+use Rattle.std.specs.Prelude.{ℕ, ◌<◌, ◌^◌, ◌≡◌, refl, Bool, true, false, List, [], ◌∷◌, Option, Some, None}
 use Rattle.std.proofs.Common.{sym, ◌∙◌, ap}
 use Rattle.record.specs.Byte.{digit}
 use Rattle.record.specs.Form.{All, value_of}
 use Rattle.eights.specs.Fields.{fields_by, EachNumber}
 use Rattle.eights.specs.Told.{EightTold}
-use Rattle.eights.specs.declared.Eight.{Eight}
-use Rattle.eights.specs.declared.Eight.TheVariants.{Digits, Other}
 
 -- what `number` promises of eight bytes allows one answer
-pub eight_told_only : (bs : List ℕ) (x y : Eight) → EightTold bs x → EightTold bs y → x ≡ y
-eight_told_only bs (Digits v) (Digits u) h k = ap Digits (h.1 ∙ sym k.1)
-eight_told_only bs (Digits v) Other h k = absurd (k h.0)
-eight_told_only bs Other (Digits u) h k = absurd (h k.0)
-eight_told_only bs Other Other h k = refl
+pub eight_told_only : (bs : List ℕ) (x y : Option ℕ) → EightTold bs x → EightTold bs y → x ≡ y
+eight_told_only bs (Some v) (Some u) h k = ap Some (h.1 ∙ sym k.1)
+eight_told_only bs (Some v) None h k = absurd (k h.0)
+eight_told_only bs None (Some u) h k = absurd (h k.0)
+eight_told_only bs None None h k = refl
 
 -- ---- what the code's parts promise of the eight bytes, joined
 -- bytes as one number, in fields of eight binary digits, the first lowest

@@ -9,14 +9,6 @@ ghost use Rattle.std.specs.Prelude.{◌≡◌, [], ◌∷◌, ◌≤◌};
 ghost use Rattle.eights.specs.Eights.{joined_of, DigitsTest, Makes};
 ghost use Rattle.eights.specs.Told.{EightTold};
 
-#[derive(Clone, Copy)]
-pub enum Eight {
-    // All are digits, and they make this number.
-    Digits(u64),
-    // One is no digit.
-    Other,
-}
-
 // The bytes as one number, the first in the lowest field: just as they stand in memory, so that the compiler loads them at once.
 fn joined(a: u8, b: u8, c: u8, d: u8, e: u8, f: u8, g: u8, h: u8) -> u64
     ensures { result ≡ joined_of (a ∷ b ∷ c ∷ d ∷ e ∷ f ∷ g ∷ h ∷ []) }
@@ -49,12 +41,12 @@ fn value(w: u64) -> u64
 }
 
 // The number that eight bytes make, if all are digits.
-pub fn number(a: u8, b: u8, c: u8, d: u8, e: u8, f: u8, g: u8, h: u8) -> Eight
+pub fn number(a: u8, b: u8, c: u8, d: u8, e: u8, f: u8, g: u8, h: u8) -> Option<u64>
     ensures { EightTold (a ∷ b ∷ c ∷ d ∷ e ∷ f ∷ g ∷ h ∷ []) result }
 {
     let w = joined(a, b, c, d, e, f, g, h);
     if are_digits(w) {
-        return Eight::Digits(value(w));
+        return Some(value(w));
     }
-    Eight::Other
+    None
 }
