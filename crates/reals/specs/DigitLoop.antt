@@ -1,6 +1,6 @@
 -- The laws by which the code's loop over digits goes, at an index of the whole text. Assumes nothing.
 use Prim.Native.Nat.{ℕ, suc, ◌+◌, ◌*◌, ◌-◌, ◌/◌, ◌%◌, ◌^◌, ◌≤◌, ◌<◌, min}
-use Rattle.std.specs.Prelude.{◌≡◌, refl, Bool, false, ◌||◌, ◌&&◌, eqb, ltb, drop, get_or}
+use Rattle.std.specs.Prelude.{◌≡◌, refl, Bool, false, ◌||◌, ◌&&◌, eqb, ltb, drop, get_or, Option, Some, None}
 use Rattle.std.proofs.Math.Path.{sym, ap, subst}
 use Rattle.std.proofs.Common.{◌∙◌, le_trans, add_assoc, add-mul, mul_assoc, mul_comm, mul-le-mul_left, mul-le-mul_right, pow-suc, suc-mul, div-mul-le_self, div-add-mod', mod-lt, arith, lt-ltb, le-ltb, eq-eqb, ne_eqb, ltb-false, length-drop}
 use Rattle.std.proofs.Math.Bool.{true}
@@ -16,13 +16,9 @@ use Rattle.record.specs.Byte.{digit}
 use Rattle.record.specs.Text.{NumberAndRest, number_and_rest, digit_turn, number_from}
 use Rattle.record.specs.Form.{All, value_of}
 use Rattle.record.specs.Turns.{digit_stops, digit_goes}
-use Rattle.eights.specs.declared.Eight.{Eight}
 use Rattle.eights.specs.Told.{EightTold}
 use Rattle.reals.specs.Scalar.{NumberAt, DecimalAt, TensAt, unsigned, is_minus, mantissa_bound, largest_held, Mantissa, mantissa, pointed, fraction_of, exponent_of_digits, exponent_of, digits_only, PlainAt}
 use Rattle.reals.specs.Class.{no_and}
-use Rattle.reals.specs.declared.Tens.TheVariants.{Power, Malformed}
-use Rattle.reals.specs.declared.Plain.{Plain}
-use Rattle.reals.specs.declared.Plain.TheVariants.{Other}
 use Rattle.reals.specs.declared.Number.{Number}
 
 -- the digits from `at` to i have been read: whatever number n stood before them, k stands there now, held up to the cap
@@ -117,20 +113,20 @@ abbrev pub eight_from : List ℕ → ℕ → List ℕ
 eight_from t i = get_or t i 0 ∷ get_or t (i + 1) 0 ∷ get_or t (i + 2) 0 ∷ get_or t (i + 3) 0 ∷ get_or t (i + 4) 0 ∷ get_or t (i + 5) 0 ∷ get_or t (i + 6) 0 ∷ get_or t (i + 7) 0 ∷ []
 
 -- eight digits stand at the place, or nothing is said
-abbrev pub EightAt : List ℕ → ℕ → Eight → Type 0
-EightAt t at (Eight.Digits v) = DigitsAt t at 8 v
-EightAt t at Eight.Other = Unit {0}
+abbrev pub EightAt : List ℕ → ℕ → Option ℕ → Type 0
+EightAt t at (Some v) = DigitsAt t at 8 v
+EightAt t at None = Unit {0}
 
 -- what is told of the eight bytes at the place says whether eight digits stand there
-pub eight_at : (t : List ℕ) (i : ℕ) (x : Eight) → EightTold (eight_from t i) x → EightAt t i x
-eight_at t i (Eight.Digits v) h = record {
+pub eight_at : (t : List ℕ) (i : ℕ) (x : Option ℕ) → EightTold (eight_from t i) x → EightAt t i x
+eight_at t i (Some v) h = record {
   bytes = eight_from t i;
   many = refl;
   stand = (refl, (refl, (there t (omega arith), (there t (omega arith), (there t (omega arith), (there t (omega arith), (there t (omega arith), (there t (omega arith), tt))))))));
   all = h.0;
   makes = h.1;
 }
-eight_at t i Eight.Other h = tt
+eight_at t i None h = tt
 
 -- n digits make less than 10 ^ n
 value_lt : (bs : List ℕ) → All digit bs → value_of bs < 10 ^ length bs
@@ -320,11 +316,11 @@ module _ (t : List ℕ) (i : ℕ) where
   decimal_end from l h = decimal_plain from l (λ n. no_byte n h)
 
   -- at the end the exponent is 0
-  pub tens_none : length t ≤ i → TensAt (drop i t) (Power false 0)
+  pub tens_none : length t ≤ i → TensAt (drop i t) (Some record { down = false; size = 0 })
   tens_none h = (0, rw (drop_end t i h) refl, refl)
 
   -- a byte that is no `E` or `e` begins no exponent
-  pub tens_other : i < length t → eqb (get_or t i 0) 69 || eqb (get_or t i 0) 101 ≡ false → TensAt (drop i t) Malformed
+  pub tens_other : i < length t → eqb (get_or t i 0) 69 || eqb (get_or t i 0) 101 ≡ false → TensAt (drop i t) None
   tens_other h e = rw (split t i h, e) refl
 
   -- after an exponent's letter: u is where the digits begin
@@ -334,11 +330,11 @@ module _ (t : List ℕ) (i : ℕ) where
     letter = rw (split t i h, e, us) refl
 
     -- digits after an exponent's letter and sign are the exponent
-    pub tens_read : (m : Bool) (x : ℕ) → m ≡ is_minus (drop (i + 1) t) → PlainAt (drop u t) largest_held (Plain.Digits x) → TensAt (drop i t) (Power m x)
+    pub tens_read : (m : Bool) (x : ℕ) → m ≡ is_minus (drop (i + 1) t) → PlainAt (drop u t) largest_held (Some x) → TensAt (drop i t) (Some record { down = m; size = x })
     tens_read m x s p = ((number_from 0 (drop u t)).value, letter ∙ rw (p.0, s) refl, p.1)
 
     -- anything but digits after an exponent's letter and sign is malformed
-    pub tens_bad : PlainAt (drop u t) largest_held Other → TensAt (drop i t) Malformed
+    pub tens_bad : PlainAt (drop u t) largest_held None → TensAt (drop i t) None
     tens_bad p = letter ∙ rw p refl
 
 -- ---- a rest that is digits only
@@ -348,7 +344,7 @@ module _ (t : List ℕ) (u cap : ℕ) (d : Number) (at : NumberAt t u 0 cap d) w
   rest = at.rest 0
 
   -- the digits reach the text's end, and there is one: the rest is a number
-  pub plain_read : d.next ≡ length t → u < length t → PlainAt (drop u t) cap (Plain.Digits d.value)
+  pub plain_read : d.next ≡ length t → u < length t → PlainAt (drop u t) cap (Some d.value)
   plain_read n l =
       let z : length (number_from 0 (drop u t)).rest ≡ 0 = ap length rest ∙ simp length-drop (omega arith) in
       let o : 0 < length (drop u t) = simp length-drop (omega arith) in (
@@ -357,7 +353,7 @@ module _ (t : List ℕ) (u cap : ℕ) (d : Number) (at : NumberAt t u 0 cap d) w
       )
 
   -- the digits do not reach the text's end, or there is none: the rest is no number
-  pub plain_at_other : eqb d.next (length t) && ltb u (length t) ≡ false → PlainAt (drop u t) cap Other
+  pub plain_at_other : eqb d.next (length t) && ltb u (length t) ≡ false → PlainAt (drop u t) cap None
   plain_at_other f = go (eqb d.next (length t)) (ltb u (length t)) refl refl f
     where
       full : length (drop d.next t) ≡ 0 → d.next ≤ length t → d.next ≡ length t

@@ -1,5 +1,5 @@
 -- A real, read at places of the text: what the code's parts promise put together. Assumes nothing.
-use Rattle.std.specs.Prelude.{ℕ, ◌+◌, ◌-◌, ◌≤◌, min, ◌≡◌, refl, Bool, true, false, ◌&&◌, length, take, drop}
+use Rattle.std.specs.Prelude.{ℕ, ◌+◌, ◌-◌, ◌≤◌, min, ◌≡◌, refl, Bool, true, false, ◌&&◌, length, take, drop, Float, Some, None, Result}
 use Rattle.std.proofs.Common.{sym, ◌∙◌, arith, eq-eqb, ne_eqb, length-drop, take-append-drop, drop-drop}
 use Rattle.std.proofs.Math.Path.{ap}
 use mathlib.Core.List.{List, ◌++◌}
@@ -15,10 +15,10 @@ use Rattle.long_reals.specs.DigitsRight.{number_append, number_in_only}
 use Rattle.reals.specs.AnyRealLaws.{number_rest, fraction_rest}
 use Rattle.reals.specs.FormRight.{unparsed_by}
 use Rattle.reals.specs.declared.Reals.{Reals}
-use Rattle.reals.specs.declared.Real.{Real}
+use Rattle.reals.specs.declared.NotRead.{NotRead}
 use Rattle.reals.specs.declared.Number.{Number}
 use Rattle.reals.specs.declared.Decimal.{Decimal}
-use Rattle.reals.specs.declared.Tens.TheVariants.{Power, Malformed}
+use Rattle.reals.specs.declared.Tens.{Tens}
 
 -- two rests of a text have the same length just where they begin at one place
 same_place : (t : List ℕ) (i j : ℕ) → i ≤ length t → j ≤ length t → eqb (length (drop i t)) (length (drop j t)) ≡ eqb i j
@@ -74,23 +74,23 @@ module _ (t : List ℕ) (a : ℕ) (here : drop a t ≡ unsigned t) (within : a �
   no_digit which e = sym (unparsed_by which t (parsed_at ∙ rw e refl))
 
   -- a text with a malformed exponent is 12
-  pub bad_tens : (which : Reals) → eqb w.next a && eqb d.places 0 ≡ false → TensAt (drop d.next t) Malformed → refused 12 ≡ real_by which t
+  pub bad_tens : (which : Reals) → eqb w.next a && eqb d.places 0 ≡ false → TensAt (drop d.next t) None → refused 12 ≡ real_by which t
   bad_tens which e f = sym (unparsed_by which t (parsed_at ∙ rw (e, f) refl))
 
   -- else the parse has the sign, m, the number of fraction digits and the exponent that the code holds
-  good_tens : (s down : Bool) (x : ℕ) → eqb w.next a && eqb d.places 0 ≡ false → s ≡ is_minus t → (f : TensAt (drop d.next t) (Power down x)) → parsed s (fraction_of (number_from 0 (unsigned t)).value (number_from 0 (unsigned t)).rest).value d.places down f.0 ≡ parse_of t
-  good_tens s down x e m f =
+  good_tens : (s : Bool) (g : Tens) → eqb w.next a && eqb d.places 0 ≡ false → s ≡ is_minus t → (f : TensAt (drop d.next t) (Some g)) → parsed s (fraction_of (number_from 0 (unsigned t)).value (number_from 0 (unsigned t)).rest).value d.places g.down f.0 ≡ parse_of t
+  good_tens s g e m f =
       let M = fraction_of (number_from 0 (unsigned t)).value (number_from 0 (unsigned t)).rest in
-      ap (λ (b : Bool). parsed b M.value d.places down f.0) m
-      ∙ ap (λ (k : ℕ). parsed (is_minus t) M.value k down f.0) (sym places)
+      ap (λ (b : Bool). parsed b M.value d.places g.down f.0) m
+      ∙ ap (λ (k : ℕ). parsed (is_minus t) M.value k g.down f.0) (sym places)
       ∙ sym (parsed_at ∙ rw (e, f.1) refl)
 
   -- a text whose parts are well formed answers as the class does of what the code holds
-  pub good_class : (s down : Bool) (x : ℕ) (r : Real) → eqb w.next a && eqb d.places 0 ≡ false → s ≡ is_minus t → TensAt (drop d.next t) (Power down x) → ClassOf s d.value d.places down x r → told_real r ≡ real_of t
+  pub good_class : (s : Bool) (g : Tens) (r : Result Float NotRead) → eqb w.next a && eqb d.places 0 ≡ false → s ≡ is_minus t → TensAt (drop d.next t) (Some g) → ClassOf s d.value d.places g.down g.size r → told_real r ≡ real_of t
   unfolding real_of
-  good_class s down x r e m f c =
+  good_class s g r e m f c =
       let M = fraction_of (number_from 0 (unsigned t)).value (number_from 0 (unsigned t)).rest in
-      c M.value f.0 held f.2 ∙ ap class_of (good_tens s down x e m f)
+      c M.value f.0 held f.2 ∙ ap class_of (good_tens s g e m f)
 
   -- the digits of the mantissa make m
   pub digits_held : number_in 0 (take (d.next - a) (drop a t)) ≡ (fraction_of (number_from 0 (unsigned t)).value (number_from 0 (unsigned t)).rest).value
@@ -111,10 +111,10 @@ module _ (t : List ℕ) (a : ℕ) (here : drop a t ≡ unsigned t) (within : a �
   m_held = held ∙ ap (min mantissa_bound) (sym digits_held)
 
   -- a text whose parts are well formed answers as any real does of what the code holds
-  pub good_any : (s down : Bool) (x b : ℕ) → eqb w.next a && eqb d.places 0 ≡ false → s ≡ is_minus t → TensAt (drop d.next t) (Power down x) → AnyAt s (number_in 0 (take (d.next - a) (drop a t))) d.places down x b → read b ≡ any_real_of t
+  pub good_any : (s : Bool) (g : Tens) (b : ℕ) → eqb w.next a && eqb d.places 0 ≡ false → s ≡ is_minus t → TensAt (drop d.next t) (Some g) → AnyAt s (number_in 0 (take (d.next - a) (drop a t))) d.places g.down g.size b → read b ≡ any_real_of t
   unfolding any_real_of
-  good_any s down x b e m f c =
+  good_any s g b e m f c =
       let M = fraction_of (number_from 0 (unsigned t)).value (number_from 0 (unsigned t)).rest in
       ap read (c f.0 f.2)
-      ∙ ap (λ (n : ℕ). any_of (parsed s n d.places down f.0)) digits_held
-      ∙ ap any_of (good_tens s down x e m f)
+      ∙ ap (λ (n : ℕ). any_of (parsed s n d.places g.down f.0)) digits_held
+      ∙ ap any_of (good_tens s g e m f)

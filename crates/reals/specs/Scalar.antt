@@ -1,20 +1,17 @@
 -- Document 01, 'Parameters', with the class of reals of #101, and any real: reals, integers and references, computed from a trimmed parameter's bytes. Form.antt
 -- has the same as rules, and FormRight.antt and WholeRight.antt that the two are one. Assumes nothing.
-use Rattle.std.specs.Prelude.{ℕ, ◌+◌, ◌*◌, ◌-◌, ◌^◌, ◌≤◌, ◌<◌, min, ◌≡◌, Bool, true, false, ◌&&◌, ◌||◌, List, [], ◌∷◌, eqb, leb, ltb, length, drop, ℤ, pos, neg_ℤ}
+use Rattle.std.specs.Prelude.{ℕ, ◌+◌, ◌*◌, ◌-◌, ◌^◌, ◌≤◌, ◌<◌, min, ◌≡◌, Bool, true, false, ◌&&◌, ◌||◌, List, [], ◌∷◌, eqb, leb, ltb, length, drop, ℤ, pos, neg_ℤ, Float, Option, Some, None, Result}
 use Rattle.common.specs.Pick.{pick}
 use Rattle.record.specs.Text.{NumberAndRest, number_from}
 use Rattle.nearest.specs.Near.{near}
 use Rattle.nearest.specs.Nearest.{signed}
 use Rattle.nearest.specs.Power.{near_by}
 use Rattle.reals.specs.Answer.{Answer, read, refused, told_real, longest, farthest}
-use Rattle.reals.specs.declared.Real.{Real}
+use Rattle.reals.specs.declared.NotRead.{NotRead}
 use Rattle.reals.specs.declared.Scale.{Scale}
 use Rattle.reals.specs.declared.Number.{Number}
 use Rattle.reals.specs.declared.Decimal.{Decimal}
 use Rattle.reals.specs.declared.Tens.{Tens}
-use Rattle.reals.specs.declared.Tens.TheVariants.{Power, Malformed}
-use Rattle.reals.specs.declared.Plain.{Plain}
-use Rattle.reals.specs.declared.Plain.TheVariants.{Other}
 
 -- "Optional sign": what follows it in a text
 abbrev pub unsigned : List ℕ → List ℕ
@@ -147,9 +144,9 @@ pub record NumberAt (t : List ℕ) (at from cap : ℕ) (r : Number) : Type 0 whe
   pub within : r.next ≤ length t
 
 -- the bytes are digits only, and their number is held up to the cap; or they are not
-abbrev pub PlainAt : List ℕ → ℕ → Plain → Type 0
-PlainAt xs cap (Plain.Digits n) = (digits_only xs ≡ true) × (n ≡ min cap (number_from 0 xs).value)
-PlainAt xs cap Other = digits_only xs ≡ false
+abbrev pub PlainAt : List ℕ → ℕ → Option ℕ → Type 0
+PlainAt xs cap (Some n) = (digits_only xs ≡ true) × (n ≡ min cap (number_from 0 xs).value)
+PlainAt xs cap None = digits_only xs ≡ false
 
 -- one more than the largest m
 abbrev pub mantissa_bound : ℕ
@@ -169,12 +166,12 @@ abbrev pub largest_held : ℕ
 largest_held = 2 ^ 64 - 1
 
 -- the exponent of a text, its size held up to the largest number, or malformed
-abbrev pub TensAt : List ℕ → Tens → Type 0
-TensAt xs (Power d x) = (n : ℕ) × (exponent_of xs ≡ power d n) × (x ≡ min largest_held n)
-TensAt xs Malformed = exponent_of xs ≡ malformed
+abbrev pub TensAt : List ℕ → Option Tens → Type 0
+TensAt xs (Some e) = (n : ℕ) × (exponent_of xs ≡ power e.down n) × (e.size ≡ min largest_held n)
+TensAt xs None = exponent_of xs ≡ malformed
 
 -- r is the answer of the class, where m is held up to its cap and the exponent up to the largest number
-abbrev pub ClassOf : Bool → ℕ → ℕ → Bool → ℕ → Real → Type 0
+abbrev pub ClassOf : Bool → ℕ → ℕ → Bool → ℕ → Result Float NotRead → Type 0
 ClassOf s m f d x r = (M X : ℕ) → m ≡ min mantissa_bound M → x ≡ min largest_held X → told_real r ≡ class_of (parsed s M f d X)
 
 -- the power of ten that n digits are multiplied by, the exponent held up to the largest number; no text has 2 ^ 63 digits

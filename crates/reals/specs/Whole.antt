@@ -1,8 +1,8 @@
 -- Integers and references, read at places of the text. Assumes nothing.
 use Prim.Native.Nat.{ℕ, ◌^◌, ◌≤◌, ◌<◌, min}
-use Rattle.std.specs.Prelude.{◌≡◌, Bool, ◌&&◌, eqb, leb, drop, get_or}
+use Rattle.std.specs.Prelude.{◌≡◌, Bool, ◌&&◌, eqb, leb, drop, get_or, Some, None}
 use Rattle.std.proofs.Math.Path.{refl, sym, ap}
-use Rattle.std.proofs.Common.{◌∙◌, arith, le-ltb, le-leb, ne_eqb, eq-eqb}
+use Rattle.std.proofs.Common.{◌∙◌, arith, le-ltb, ne_eqb, eq-eqb}
 use Rattle.std.proofs.Math.Bool.{true, false}
 use mathlib.Core.List.{List, [], ◌∷◌}
 use Rattle.std.proofs.Math.Decide.{dec_le}
@@ -12,8 +12,6 @@ use Rattle.common.specs.Pick.{pick}
 use Rattle.record.specs.Text.{number_from}
 use Rattle.reals.specs.Scalar.{unsigned, is_minus, digits_only, integer_in_range, whole_of, reference_id, reference_of, PlainAt, largest_held}
 use Rattle.reals.specs.Answer.{read, refused}
-use Rattle.reals.specs.declared.Plain.{Plain}
-use Rattle.reals.specs.declared.Plain.TheVariants.{Other}
 
 -- a number held up to 2 ^ 64 - 1 is in the signed 64-bit range just where the number itself is
 capped : (s : Bool) (n N : ℕ) → n ≡ min largest_held N → integer_in_range s n ≡ integer_in_range s N
@@ -32,12 +30,12 @@ capped s n N e = go (dec_le N largest_held)
 
 module _ (t : List ℕ) (a : ℕ) (here : drop a t ≡ unsigned t) where
   -- what follows the sign is not digits only: 12
-  pub whole_other : PlainAt (drop a t) largest_held Other → refused 12 ≡ whole_of t
+  pub whole_other : PlainAt (drop a t) largest_held None → refused 12 ≡ whole_of t
   unfolding whole_of
   whole_other p = let q : digits_only (unsigned t) ≡ false = ap digits_only (sym here) ∙ p in rw q refl
 
   -- what follows the sign is digits: the number, if it is in range
-  pub whole_read : (s : Bool) (n : ℕ) → s ≡ is_minus t → PlainAt (drop a t) largest_held (Plain.Digits n) → integer_in_range s n ≡ whole_of t
+  pub whole_read : (s : Bool) (n : ℕ) → s ≡ is_minus t → PlainAt (drop a t) largest_held (Some n) → integer_in_range s n ≡ whole_of t
   unfolding whole_of
   whole_read s n m p =
       let q : digits_only (unsigned t) ≡ true = ap digits_only (sym here) ∙ p.0 in
@@ -72,22 +70,18 @@ module _ (t : List ℕ) where
   hashed h e = at_first h ∙ rw (eq-eqb (get_or t 0 0) 35 e) refl
 
   -- after `#` stand not digits only: 12
-  pub reference_bad : 0 < length t → get_or t 0 0 ≡ 35 → PlainAt (drop 1 t) largest_held Other → refused 12 ≡ reference_of t
+  pub reference_bad : 0 < length t → get_or t 0 0 ≡ 35 → PlainAt (drop 1 t) largest_held None → refused 12 ≡ reference_of t
   reference_bad h e p = sym (hashed h e ∙ rw p refl)
 
-  -- after `#` stand digits up to 4294967295: the number
-  pub reference_read : (n : ℕ) → 0 < length t → get_or t 0 0 ≡ 35 → PlainAt (drop 1 t) largest_held (Plain.Digits n) → n ≤ 4294967295 → read n ≡ reference_of t
-  reference_read n h e p l = sym (hashed h e ∙ at (number_from 0 (drop 1 t)).value p.1)
+  -- after `#` stand digits: their number, if it is up to 4294967295
+  pub reference_read : (n : ℕ) → 0 < length t → get_or t 0 0 ≡ 35 → PlainAt (drop 1 t) largest_held (Some n) → pick (leb n 4294967295) (read n) (refused 12) ≡ reference_of t
+  reference_read n h e p = sym (hashed h e ∙ at (number_from 0 (drop 1 t)).value p.1 (dec_le n 4294967295))
     where
-      at : (N : ℕ) → n ≡ min largest_held N → pick (digits_only (drop 1 t) && leb N 4294967295) (read N) (refused 12) ≡ read n
-      at N q =
+      at : (N : ℕ) → n ≡ min largest_held N → Dec (n ≤ 4294967295) → pick (digits_only (drop 1 t) && leb N 4294967295) (read N) (refused 12) ≡ pick (leb n 4294967295) (read n) (refused 12)
+      at N q (yes l) =
           let z : N ≡ n = omega arith in
-          let y : N ≤ 4294967295 = omega arith in
-          rw (p.0, le-leb N 4294967295 y) (ap read z)
-
-  -- after `#` stand digits of a larger number than 4294967295: 12
-  pub reference_over : (n : ℕ) → 0 < length t → get_or t 0 0 ≡ 35 → PlainAt (drop 1 t) largest_held (Plain.Digits n) → 4294967295 < n → refused 12 ≡ reference_of t
-  reference_over n h e p l = sym (hashed h e ∙ at (number_from 0 (drop 1 t)).value p.1)
-    where
-      at : (N : ℕ) → n ≡ min largest_held N → pick (digits_only (drop 1 t) && leb N 4294967295) (read N) (refused 12) ≡ refused 12
-      at N q = let y : 4294967295 < N = omega arith in rw (p.0, lt-leb N 4294967295 y) refl
+          rw (z, p.0) refl
+      at N q (no l) =
+          let y : 4294967295 < N = omega arith in
+          let x : 4294967295 < n = omega arith in
+          rw (p.0, lt-leb N 4294967295 y, lt-leb n 4294967295 x) refl

@@ -6,9 +6,10 @@
 // answer it: up to nineteen digits by `wide_reals`, more by `long_reals`.
 #![tactic(auto)]
 
-ghost use Rattle.std.specs.Prelude.{◌≡◌, ◌+◌, ◌*◌, ◌-◌, ◌≤◌, ◌<◌, ◌^◌, min, true, false, ◌&&◌, length, drop};
+ghost use Rattle.std.specs.Prelude.{◌≡◌, ◌+◌, ◌*◌, ◌-◌, ◌≤◌, ◌<◌, ◌^◌, min, true, false, ◌&&◌, length, drop, leb};
 ghost use Rattle.std.specs.Float.{binary64};
 ghost use Rattle.std.specs.Float.Ieee.{to_bits};
+ghost use Rattle.common.specs.Pick.{pick};
 ghost use Rattle.record.specs.Byte.{digit};
 ghost use Rattle.nearest.specs.Near.{near};
 ghost use Rattle.nearest.specs.Power.{near_by};
@@ -16,7 +17,7 @@ ghost use Rattle.nearest.specs.Nearest.{signed};
 ghost use Rattle.nearest.specs.Product.{worth_of, finite};
 ghost use Rattle.reals.specs.Scalar.{real_of, ScaleAt, AnyAt, whole_of, integer_in_range, reference_of, unsigned, is_minus, NumberAt, PlainAt, DecimalAt, TensAt, ClassOf, mantissa_bound};
 ghost use Rattle.reals.specs.Which.{real_by};
-ghost use Rattle.reals.specs.Answer.{told_real, told_whole, told_reference, farthest};
+ghost use Rattle.reals.specs.Answer.{told_real, told_whole, told_reference, farthest, read, refused};
 ghost use Rattle.long_reals.specs.Number.{number_in};
 ghost use Rattle.reals.specs.DigitLoop.{NumberReading, DigitsAt, EightAt};
 
@@ -27,27 +28,13 @@ pub enum Reals {
     Any,
 }
 
-#[derive(Clone, Copy)]
-pub enum Real {
-    Value(f64),
+// Why a text is not read as a real.
+#[derive(Clone, Copy, PartialEq, Eq)]
+pub enum NotRead {
     // 13: a real, but not of the class.
     Outside,
     // 12.
     NotReal,
-}
-
-#[derive(Clone, Copy)]
-pub enum Whole {
-    Value(i64),
-    // 12.
-    NotWhole,
-}
-
-#[derive(Clone, Copy)]
-pub enum Reference {
-    Value(u32),
-    // 12.
-    NotReference,
 }
 
 // The class's two bounds, `longest` and `farthest` of specs/Answer.antt: m has at most 19 digits, so this is one more than the largest m, and
@@ -162,7 +149,7 @@ fn four_at(t: &[u8], at: usize) -> u64
 }
 
 // The number of eight digits from a place, where there are so many.
-fn eight_at(t: &[u8], at: usize) -> eights::Eight
+fn eight_at(t: &[u8], at: usize) -> Option<u64>
     requires { at + 8 ≤ length t.now }
     ensures { EightAt t.now at result }
 {
@@ -183,7 +170,7 @@ fn eight_from(t: &[u8], at: usize, from: u64, cap: u64) -> Number
     ensures { NumberReading t.now at from cap result.value result.next }
 {
     if t.len() - at >= 8 {
-        if let eights::Eight::Digits(v) = eight_at(t, at) {
+        if let Some(v) = eight_at(t, at) {
             return Number {
                 value: with_digits(from, v, 100000000, cap),
                 next: at + 8,
@@ -258,48 +245,46 @@ fn fraction_from(t: &[u8], at: usize, from: u64) -> Decimal
     }
 }
 
-// Whether an exponent is negative, and its size.
-#[derive(Clone, Copy)]
-enum Tens {
-    Power(bool, u64),
-    Malformed,
-}
-
 // The number of a text's rest, where it is digits only, at least one; or the cap.
-#[derive(Clone, Copy)]
-enum Plain {
-    Digits(u64),
-    Other,
-}
-
-fn plain_from(t: &[u8], at: usize, cap: u64) -> Plain
+fn plain_from(t: &[u8], at: usize, cap: u64) -> Option<u64>
     requires { at ≤ length t.now }
     ensures { PlainAt (drop at t.now) cap result }
 {
     let d = digits_from(t, at, 0, cap);
     if (d.next == t.len()) & (at < t.len()) {
-        return Plain::Digits(d.value);
+        return Some(d.value);
     }
-    Plain::Other
+    None
 }
 
-// The exponent that the rest of the text is; none is 0.
-fn tens_from(t: &[u8], at: usize) -> Tens
+// An exponent: whether it is negative, and its size.
+#[derive(Clone, Copy)]
+struct Tens {
+    down: bool,
+    size: u64,
+}
+
+// The exponent that the rest of the text is, where it is well formed; none is 0.
+fn tens_from(t: &[u8], at: usize) -> Option<Tens>
     requires { at ≤ length t.now }
     ensures { TensAt (drop at t.now) result }
 {
     if at == t.len() {
-        return Tens::Power(false, 0);
+        return Some(Tens {
+            down: false,
+            size: 0,
+        });
     }
     let c = t[at];
     if (c == b'E') | (c == b'e') {
         let u = past_sign(t, at + 1);
-        let Plain::Digits(x) = plain_from(t, u, LARGEST) else {
-            return Tens::Malformed;
-        };
-        return Tens::Power(minus_at(t, at + 1), x);
+        let size = plain_from(t, u, LARGEST)?;
+        return Some(Tens {
+            down: minus_at(t, at + 1),
+            size,
+        });
     }
-    Tens::Malformed
+    None
 }
 
 // The powers of ten that an f64 holds exactly. An array of them would be laid on the stack at each use; a match is a table of the program's.
@@ -437,36 +422,36 @@ fn any_real(neg: bool, t: &[u8], m: u64, f: usize, down: bool, x: u64) -> f64
 }
 
 // The answer for a real with m, f fraction digits and an exponent x, negative if `down`.
-fn in_class(neg: bool, m: u64, f: usize, down: bool, x: u64) -> Real
+fn in_class(neg: bool, m: u64, f: usize, down: bool, x: u64) -> Result<f64, NotRead>
     requires { (m ≤ mantissa_bound) × (f < 2 ^ 63) }
     ensures { ClassOf neg m f down x result }
 {
     if MOST <= m {
-        return Real::Outside;
+        return Err(NotRead::Outside);
     }
     let k = x as usize;
     if down {
         if k <= FARTHEST {
             if f <= FARTHEST - k {
-                return Real::Value(lowered(neg, m, k + f));
+                return Ok(lowered(neg, m, k + f));
             }
         }
-        return Real::Outside;
+        return Err(NotRead::Outside);
     }
     if f <= k {
         if k - f <= FARTHEST {
-            return Real::Value(raised(neg, m, k - f));
+            return Ok(raised(neg, m, k - f));
         }
-        return Real::Outside;
+        return Err(NotRead::Outside);
     }
     if f - k <= FARTHEST {
-        return Real::Value(lowered(neg, m, f - k));
+        return Ok(lowered(neg, m, f - k));
     }
-    Real::Outside
+    Err(NotRead::Outside)
 }
 
 // Reads a real, of the class or any.
-pub fn read_real(which: Reals, t: &[u8]) -> Real
+pub fn read_real(which: Reals, t: &[u8]) -> Result<f64, NotRead>
     ensures { told_real result ≡ real_by which t.now }
 {
     let neg = minus_at(t, 0);
@@ -475,77 +460,63 @@ pub fn read_real(which: Reals, t: &[u8]) -> Real
     let point = w.next;
     let d = fraction_from(t, point, w.value);
     if (point == a) & (d.places == 0) {
-        return Real::NotReal;
+        return Err(NotRead::NotReal);
     }
     let end = d.next;
-    let Tens::Power(down, x) = tens_from(t, end) else {
-        return Real::NotReal;
+    let Some(e) = tens_from(t, end) else {
+        return Err(NotRead::NotReal);
     };
     match which {
-        Reals::Class => in_class(neg, d.value, d.places, down, x),
-        Reals::Any => Real::Value(any_real(neg, &t[a..end], d.value, d.places, down, x)),
+        Reals::Class => in_class(neg, d.value, d.places, e.down, e.size),
+        Reals::Any => Ok(any_real(neg, &t[a..end], d.value, d.places, e.down, e.size)),
     }
 }
 
 // Reads a real of the class.
-pub fn parse_real(t: &[u8]) -> Real
+pub fn parse_real(t: &[u8]) -> Result<f64, NotRead>
     ensures { told_real result ≡ real_of t.now }
 {
     read_real(Reals::Class, t)
 }
 
-// The negative of a number.
-fn below_zero(n: u64) -> Whole
+// The negative of a number, if it is in range.
+fn below_zero(n: u64) -> Option<i64>
     ensures { told_whole result ≡ integer_in_range true n }
 {
-    if n == 0 {
-        return Whole::Value(0);
-    }
-    // The smallest has no positive of its own, so the step from -1 down is what is cast.
-    if n <= 0x8000_0000_0000_0000 {
-        return Whole::Value(-1 - ((n - 1) as i64));
-    }
-    Whole::NotWhole
+    0i64.checked_sub_unsigned(n)
 }
 
-fn above_zero(n: u64) -> Whole
+fn above_zero(n: u64) -> Option<i64>
     ensures { told_whole result ≡ integer_in_range false n }
 {
-    if n < 0x8000_0000_0000_0000 {
-        return Whole::Value(n as i64);
-    }
-    Whole::NotWhole
+    i64::try_from(n).ok()
 }
 
 // Reads an integer.
-pub fn parse_int(t: &[u8]) -> Whole
+pub fn parse_int(t: &[u8]) -> Option<i64>
     ensures { told_whole result ≡ whole_of t.now }
 {
     let a = past_sign(t, 0);
-    let Plain::Digits(n) = plain_from(t, a, LARGEST) else {
-        return Whole::NotWhole;
-    };
+    let n = plain_from(t, a, LARGEST)?;
     if minus_at(t, 0) {
         return below_zero(n);
     }
     above_zero(n)
 }
 
+// A number as a reference, if it is in range.
+fn id_in_range(n: u64) -> Option<u32>
+    ensures { told_reference result ≡ pick (leb n 4294967295) (read n) (refused 12) }
+{
+    u32::try_from(n).ok()
+}
+
 // Reads a reference.
-pub fn parse_ref(t: &[u8]) -> Reference
+pub fn parse_ref(t: &[u8]) -> Option<u32>
     ensures { told_reference result ≡ reference_of t.now }
 {
-    if t.len() == 0 {
-        return Reference::NotReference;
+    if t.is_empty() || t[0] != b'#' {
+        return None;
     }
-    if t[0] != b'#' {
-        return Reference::NotReference;
-    }
-    let Plain::Digits(n) = plain_from(t, 1, LARGEST) else {
-        return Reference::NotReference;
-    };
-    if n <= 4294967295 {
-        return Reference::Value(n as u32);
-    }
-    Reference::NotReference
+    id_in_range(plain_from(t, 1, LARGEST)?)
 }

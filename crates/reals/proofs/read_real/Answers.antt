@@ -31,9 +31,9 @@ any_real-requires c = (
 pub returns-in-Class : goal.returns-in-Class
 returns-in-Class c =
     rw c.in-Class.is
-    (good_class c.args.t.now c.past_sign-a.result c.past_sign-a.ensures.0 c.past_sign-a.ensures.1 c.digits_from-w.result c.digits_from-w.ensures c.fraction_from-d.result c.fraction_from-d.ensures c.minus_at-neg.result _ _ c.in_class.result c.if-point-a.false c.minus_at-neg.ensures (rw c.in-Power.is at c.tens_from.ensures) c.in_class.ensures)
+    (good_class c.args.t.now c.past_sign-a.result c.past_sign-a.ensures.0 c.past_sign-a.ensures.1 c.digits_from-w.result c.digits_from-w.ensures c.fraction_from-d.result c.fraction_from-d.ensures c.minus_at-neg.result _ c.in_class.result c.if-point-a.false c.minus_at-neg.ensures (rw c.in-Some.is at c.tens_from.ensures) c.in_class.ensures)
 
 pub returns-in-Any : goal.returns-in-Any
 returns-in-Any c =
     rw c.in-Any.is
-    (good_any c.args.t.now c.past_sign-a.result c.past_sign-a.ensures.0 c.past_sign-a.ensures.1 c.digits_from-w.result c.digits_from-w.ensures c.fraction_from-d.result c.fraction_from-d.ensures c.minus_at-neg.result _ _ (to_bits binary64 c.any_real.result) c.if-point-a.false c.minus_at-neg.ensures (rw c.in-Power.is at c.tens_from.ensures) c.any_real.ensures)
+    (good_any c.args.t.now c.past_sign-a.result c.past_sign-a.ensures.0 c.past_sign-a.ensures.1 c.digits_from-w.result c.digits_from-w.ensures c.fraction_from-d.result c.fraction_from-d.ensures c.minus_at-neg.result _ (to_bits binary64 c.any_real.result) c.if-point-a.false c.minus_at-neg.ensures (rw c.in-Some.is at c.tens_from.ensures) c.any_real.ensures)
