@@ -1,11 +1,11 @@
 -- Rows looked up: by number, by id, by kind.
 -- Assumes nothing.
 -- Definitions to be believed: no law, and nothing computed that no theorem ties (docs/BELIEVE.md).
-use Rattle.std.specs.Prelude.{ℕ, ◌-◌, ◌≤◌, ◌<◌, ◌≡◌, Bool, true, false, ◌&&◌, List, ltb, leb, eqb, length, take, drop}
-use Rattle.std.proofs.Math.Option.{Option, none, some}
+use Rattle.std.specs.Prelude.{ℕ, ◌-◌, ◌≤◌, ◌<◌, ◌≡◌, Bool, true, false, ◌&&◌, List, ltb, leb, eqb, length, take, drop, Option, Some, None}
 use Rattle.common.specs.Pick.{pick}
-use Rattle.error.specs.Refusal.{refusal, Told, good, bad, told}
-use Rattle.statement.specs.Rows.{Row, told_row}
+use Rattle.error.specs.Refusal.{refusal, Told, good, bad}
+use Rattle.statement.specs.Rows.{Row}
+use Rattle.statement.specs.declared.Range.{Range}
 use Rattle.table.specs.Table.{table_rows, row_numbers}
 use Rattle.index.specs.Search.{searched}
 use Rattle.index.specs.declared.Ids.{Ids}
@@ -13,23 +13,15 @@ use Rattle.kinds.specs.Kind.{kind_of_keyword}
 use Rattle.kinds.specs.Rules.{rank_of}
 use Rattle.kinds.specs.declared.Kind.{Kind}
 use Rattle.kinds.specs.declared.Kind.TheVariants.{Complex, Other}
-use Rattle.lookup.specs.declared.Entry.{Entry}
-use Rattle.lookup.specs.declared.Entry.TheVariants as entry
-use Rattle.lookup.specs.declared.Required.{Required}
-use Rattle.lookup.specs.declared.Required.TheVariants as need
-use Rattle.lookup.specs.declared.Spanned.{Spanned}
-use Rattle.lookup.specs.declared.Spanned.TheVariants as spanned
-use Rattle.lookup.specs.declared.RowOrNone.{RowOrNone}
-use Rattle.lookup.specs.declared.RowOrNone.TheVariants as place
 
 -- the row with a number; none past the table
 abbrev pub row_in : List ℕ → ℕ → ℕ → Option Row
-row_in rows n k = pick (ltb k (table_rows rows n)) (some (row_numbers rows k)) none
+row_in rows n k = pick (ltb k (table_rows rows n)) (Some (row_numbers rows k)) None
 
 -- the row whose number a lookup gave, or none
 abbrev pub row_found : List ℕ → Option ℕ → Option Row
-row_found rows none = none
-row_found rows (some k) = some (row_numbers rows k)
+row_found rows None = None
+row_found rows (Some k) = Some (row_numbers rows k)
 
 -- the row of an id, by the lookup in the lent tables
 abbrev pub row_for : List ℕ → List ℕ → Ids → ℕ → Option Row
@@ -37,13 +29,12 @@ row_for rows slots ids k = row_found rows (searched rows slots ids k)
 
 -- "14 arguments asked of an id with no record, 0": what is made of a row that was looked up, or of none
 abbrev pub required : Option Row → Told Row
-required none = bad (refusal 14 0 0)
-required (some w) = good w
+required None = bad (refusal 14 0 0)
+required (Some w) = good w
 
 -- a part of the file: start and end
-pub record FileSpan : Type 0 where
-  pub start : ℕ
-  pub end : ℕ
+abbrev pub FileSpan : Type 0
+FileSpan = Range
 
 -- a part of the file from its start and its end
 abbrev pub file_span : ℕ → ℕ → FileSpan
@@ -59,8 +50,8 @@ span_in len a z = pick (span_fine len a z) (good (file_span a z)) (bad (refusal 
 
 -- the arguments of a row that was looked up: 14, 9, or the span
 abbrev pub args_by : ℕ → Option Row → Told FileSpan
-args_by len none = bad (refusal 14 0 0)
-args_by len (some w) = span_in len w.arg_start w.arg_end
+args_by len None = bad (refusal 14 0 0)
+args_by len (Some w) = span_in len w.arg_start w.arg_end
 
 -- the bytes of the file from a up to z
 abbrev pub bytes_between : List ℕ → ℕ → ℕ → List ℕ
@@ -72,8 +63,8 @@ kind_in s w = pick (eqb w.complex 1) Complex (pick (span_fine (length s) w.key_s
 
 -- the kind of a row that was looked up
 abbrev pub kind_found : List ℕ → Option Row → Kind
-kind_found s none = Other
-kind_found s (some w) = kind_in s w
+kind_found s None = Other
+kind_found s (Some w) = kind_in s w
 
 -- row i is of the kind k
 abbrev pub row_is_kind : List ℕ → List ℕ → Kind → ℕ → Bool
@@ -81,26 +72,5 @@ row_is_kind s rows k i = eqb (rank_of (kind_in s (row_numbers rows i))) (rank_of
 
 -- the first row of which a test holds (`first_from` computes it), without a loop: a row from i on and before z of which it holds, and of none before; or of none at all
 abbrev pub FirstForm : (ℕ → Bool) → ℕ → ℕ → Option ℕ → Type 0
-FirstForm p i z none = (j : ℕ) → i ≤ j → j < z → p j ≡ false
-FirstForm p i z (some k) = (i ≤ k) × (k < z) × (p k ≡ true) × ((j : ℕ) → i ≤ j → j < k → p j ≡ false)
-
--- ---- what the code's answers say
--- what the code's answer says of a row: the row or none
-abbrev pub told_entry : Entry → Option Row
-told_entry (entry.Row w) = some (told_row w)
-told_entry entry.Nothing = none
-
--- what the code's answer says of a row that is required: the row or 14
-abbrev pub told_required : Required → Told Row
-told_required (need.Row w) = good (told_row w)
-told_required (need.Refused f) = bad (told f)
-
--- what the code's answer says of a part of the file: the part, or 9 or 14
-abbrev pub told_span : Spanned → Told FileSpan
-told_span (spanned.Span r) = good (file_span r.start r.end)
-told_span (spanned.Refused f) = bad (told f)
-
--- what the code's answer says of a row's number: the number or none
-abbrev pub told_row_or_none : RowOrNone → Option ℕ
-told_row_or_none (place.At i) = some i
-told_row_or_none place.Nothing = none
+FirstForm p i z None = (j : ℕ) → i ≤ j → j < z → p j ≡ false
+FirstForm p i z (Some k) = (i ≤ k) × (k < z) × (p k ≡ true) × ((j : ℕ) → i ≤ j → j < k → p j ≡ false)

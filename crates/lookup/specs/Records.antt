@@ -1,10 +1,10 @@
 -- Document 01, 'Reading the file', of the records themselves: "Lookup of an id answers like a map written to in file order: the
 -- last record of that id, or none." And that a lookup over the memory that the records were laid in serves it.
 -- Assumes nothing.
-use Rattle.std.specs.Prelude.{ℕ, zero, suc, ◌+◌, ◌<◌, ◌≡◌, refl, Bool, true, false, List, [], ◌∷◌, ◌++◌, eqb, length, take, drop}
+use Rattle.std.specs.Prelude.{ℕ, zero, suc, ◌+◌, ◌<◌, ◌≡◌, refl, Bool, true, false, List, [], ◌∷◌, ◌++◌, eqb, length, take, drop, Option, Some, None}
 use Rattle.std.proofs.Common.{sym, ◌∙◌, ap, subst, append_assoc, arith, length-append, length-take-le, eqb-true, eq-eqb, ne_eqb}
-use Rattle.std.proofs.Math.Option.{Option, none, some}
 use Rattle.std.proofs.Math.ListN.{get_elem?}
+use Rattle.std.proofs.Math.Option as maybe
 use Rattle.std.proofs.lemmas.Bool.{eqb-false}
 use Rattle.common.specs.Pick.{pick}
 use Rattle.common.specs.Compare.{clash}
@@ -17,13 +17,13 @@ use Rattle.lookup.specs.Rules.{NoneOf, IsLastOf, LastForm}
 
 -- what was found, or else another
 abbrev pub or_else : {A : Type 0} → Option A → Option A → Option A
-or_else (some a) o = some a
-or_else none o = o
+or_else (Some a) o = Some a
+or_else None o = o
 
 -- the last record of an id, computed: that of the later records, or else this one
 unfoldable pub last_of : ℕ → List Row → Option Row
-last_of k [] = none
-last_of k (w ∷ rs) = or_else (last_of k rs) (pick (eqb w.id k) (some w) none)
+last_of k [] = None
+last_of k (w ∷ rs) = or_else (last_of k rs) (pick (eqb w.id k) (Some w) None)
 
 -- among no records, none has the id
 none_nil : (k : ℕ) → NoneOf k []
@@ -49,37 +49,37 @@ unfolding last_of
 last_is k [] = none_nil k
 last_is k (v ∷ rs) = go (last_of k rs) (last_is k rs) (eqb v.id k) refl
   where
-    go : (o : Option Row) → LastForm k rs o → (t : Bool) → eqb v.id k ≡ t → LastForm k (v ∷ rs) (or_else o (pick t (some v) none))
-    go (some w) h t e = last_more k v rs w h
-    go none h true e = record { front = []; back = rs; cut = refl; named = eqb-true v.id k e; after = h }
-    go none h false e = none_more k v rs (eqb-false v.id k e) h
+    go : (o : Option Row) → LastForm k rs o → (t : Bool) → eqb v.id k ≡ t → LastForm k (v ∷ rs) (or_else o (pick t (Some v) None))
+    go (Some w) h t e = last_more k v rs w h
+    go None h true e = record { front = []; back = rs; cut = refl; named = eqb-true v.id k e; after = h }
+    go None h false e = none_more k v rs (eqb-false v.id k e) h
 
 -- the last record of an id by the rules, or none, is what is computed
 pub last_only : (k : ℕ) (rs : List Row) (o : Option Row) → LastForm k rs o → last_of k rs ≡ o
 unfolding last_of
-last_only k [] none h = refl
-last_only k [] (some w) h = absurd (none_nil k h.front h.back w h.cut h.named)
-last_only k (v ∷ rs) none h = rw (last_only k rs none (none_less k v rs h), ne_eqb v.id k (h [] rs v refl)) refl
-last_only k (v ∷ rs) (some w) h = go h.front h.cut (λ o. last_only k rs o)
+last_only k [] None h = refl
+last_only k [] (Some w) h = absurd (none_nil k h.front h.back w h.cut h.named)
+last_only k (v ∷ rs) None h = rw (last_only k rs None (none_less k v rs h), ne_eqb v.id k (h [] rs v refl)) refl
+last_only k (v ∷ rs) (Some w) h = go h.front h.cut (λ o. last_only k rs o)
   where
     go : (front : List Row) → v ∷ rs ≡ front ++ (w ∷ h.back) → ((o : Option Row) → LastForm k rs o → last_of k rs ≡ o)
-        → or_else (last_of k rs) (pick (eqb v.id k) (some v) none) ≡ some w
+        → or_else (last_of k rs) (pick (eqb v.id k) (Some v) None) ≡ Some w
     go [] e ih =
         let p : v ≡ w = cc in
         let q : rs ≡ h.back = cc in
-        rw (ih none (subst (NoneOf k) (sym q) h.after), eq-eqb v.id k (ap (λ (x : Row). x.id) p ∙ h.named)) (ap some p)
+        rw (ih None (subst (NoneOf k) (sym q) h.after), eq-eqb v.id k (ap (λ (x : Row). x.id) p ∙ h.named)) (ap Some p)
     go (u ∷ front) e ih =
         let q : rs ≡ front ++ (w ∷ h.back) = cc in
-        rw (ih (some w) (record { front = front; back = h.back; cut = q; named = h.named; after = h.after })) refl
+        rw (ih (Some w) (record { front = front; back = h.back; cut = q; named = h.named; after = h.after })) refl
 
 -- ---- the rows in lent memory
 -- the record between two lists of records has as its number how many stand before it
-elem_mid : {A : Type 0} (front : List A) (w : A) (back : List A) → get_elem? (front ++ (w ∷ back)) (length front) ≡ some w
+elem_mid : {A : Type 0} (front : List A) (w : A) (back : List A) → get_elem? (front ++ (w ∷ back)) (length front) ≡ maybe.some w
 elem_mid [] w back = refl
 elem_mid (v ∷ front) w back = elem_mid front w back
 
 -- where a record has a number, those before it and those after it are cut around it
-elem_cut : {A : Type 0} (rs : List A) (r : ℕ) (w : A) → get_elem? rs r ≡ some w → rs ≡ take r rs ++ (w ∷ drop (suc r) rs)
+elem_cut : {A : Type 0} (rs : List A) (r : ℕ) (w : A) → get_elem? rs r ≡ maybe.some w → rs ≡ take r rs ++ (w ∷ drop (suc r) rs)
 elem_cut [] r w e = clash cc
 elem_cut (v ∷ rs) zero w e = let q : v ≡ w = cc in ap (λ x. x ∷ rs) q
 elem_cut (v ∷ rs) (suc r) w e = ap (λ x. v ∷ x) (elem_cut rs r w e)
@@ -91,22 +91,22 @@ module _ (rs : List Row) (old : List ℕ) where
 
   -- the id in the row of a record that is cut out
   cut_id : (front : List Row) (w : Row) (back : List Row) → rs ≡ front ++ (w ∷ back) → (length front < length rs) × (id_of rows (length front) ≡ w.id)
-  cut_id front w back e = (l, ap (λ (o : Option Row). id_in o) q)
+  cut_id front w back e = (l, ap (λ (o : maybe.Option Row). id_in o) q)
     where
-      id_in : Option Row → ℕ
-      id_in (some v) = v.id
-      id_in none = 0
+      id_in : maybe.Option Row → ℕ
+      id_in (maybe.some v) = v.id
+      id_in maybe.none = 0
 
       l : length front < length rs
       l = omega (arith, ap (λ (x : List Row). length x) e, length-append front (w ∷ back))
 
-      q : some (row_numbers rows (length front)) ≡ some w
+      q : maybe.some (row_numbers rows (length front)) ≡ maybe.some w
       q = sym (row_is rs old (length front) l) ∙ ap (λ (x : List Row). get_elem? x (length front)) e ∙ elem_mid front w back
 
   -- what a lookup of the rows answers is the record that is the last of that id, or there is none
   found_form : (k : ℕ) (o : Option ℕ) → LookupForm (id_of rows) (length rs) k o → LastForm k rs (row_found rows o)
-  found_form k none h = λ front back w e n. let (l, i) = cut_id front w back e in h (length front) l (i ∙ n)
-  found_form k (some r) h = record { front = take r rs; back = drop (suc r) rs; cut = c; named = h.named; after = after }
+  found_form k None h = λ front back w e n. let (l, i) = cut_id front w back e in h (length front) l (i ∙ n)
+  found_form k (Some r) h = record { front = take r rs; back = drop (suc r) rs; cut = c; named = h.named; after = after }
     where
       w : Row
       w = row_numbers rows r

@@ -1,8 +1,7 @@
 -- Document 01, of the records themselves: "the last record of that id, or none", without a loop.
 -- Assumes nothing.
 -- Definitions to be believed: no law, and nothing computed that no theorem ties (docs/BELIEVE.md).
-use Rattle.std.specs.Prelude.{ℕ, ◌+◌, ◌≡◌, List, ◌∷◌, ◌++◌}
-use Rattle.std.proofs.Math.Option.{Option, none, some}
+use Rattle.std.specs.Prelude.{ℕ, ◌+◌, ◌≡◌, List, ◌∷◌, ◌++◌, Option, Some, None}
 use Rattle.statement.specs.Rows.{Row}
 
 -- ---- the last record of an id, among records in file order
@@ -20,5 +19,5 @@ pub record IsLastOf (k : ℕ) (rs : List Row) (w : Row) : Type 0 where
 
 -- "the last record of that id, or none": the answer of a lookup among records in file order
 abbrev pub LastForm : ℕ → List Row → Option Row → Type 0
-LastForm k rs none = NoneOf k rs
-LastForm k rs (some w) = IsLastOf k rs w
+LastForm k rs None = NoneOf k rs
+LastForm k rs (Some w) = IsLastOf k rs w

@@ -5,15 +5,16 @@
 // served lies in the table, and a span outside the file is 9.
 #![tactic(auto)]
 
-ghost use Rattle.std.specs.Prelude.{◌≡◌, ◌-◌, eqb, length};
+ghost use Rattle.std.specs.Prelude.{◌≡◌, ◌-◌, eqb, length, option_map};
+ghost use Rattle.error.specs.Refusal.{told_result};
 ghost use Rattle.index.specs.Search.{searched};
-ghost use Rattle.statement.specs.Rows.{told_row};
+ghost use Rattle.statement.specs.Rows.{mapped, told_row};
 ghost use Rattle.table.specs.Table.{table_rows};
-ghost use Rattle.lookup.specs.Lookup.{told_entry, row_in, row_found, told_required, required, span_fine, told_span, span_in, args_by, kind_in, kind_found, told_row_or_none, row_is_kind};
+ghost use Rattle.lookup.specs.Lookup.{row_in, row_found, required, span_fine, span_in, args_by, kind_in, kind_found, row_is_kind};
 ghost use Rattle.lookup.specs.First.{first_from};
 
 use error::Fault;
-use index::{FoundRow, Ids};
+use index::Ids;
 use kinds::Kind;
 use statement::{Range, RecordSpan};
 
@@ -24,34 +25,6 @@ pub struct Tables {
     pub records: usize,
     pub max: u32,
     pub ids: Ids,
-}
-
-// A row, or none.
-#[derive(Clone, Copy)]
-pub enum Entry {
-    Row(RecordSpan),
-    Nothing,
-}
-
-// A row, or 14.
-#[derive(Clone, Copy)]
-pub enum Required {
-    Row(RecordSpan),
-    Refused(Fault),
-}
-
-// A part of the file, or why there is none.
-#[derive(Clone, Copy)]
-pub enum Spanned {
-    Span(Range),
-    Refused(Fault),
-}
-
-// A row's number, or none.
-#[derive(Clone, Copy)]
-pub enum RowOrNone {
-    At(usize),
-    Nothing,
 }
 
 // How many records there are.
@@ -69,76 +42,68 @@ pub fn is_empty(t: Tables) -> bool
 }
 
 // The row with this number, in file order; none past the table.
-pub fn entity(rows: &[u32], t: Tables, k: usize) -> Entry
-    ensures { told_entry result ≡ row_in rows.now t.records k }
+pub fn entity(rows: &[u32], t: Tables, k: usize) -> Option<RecordSpan>
+    ensures { option_map told_row result ≡ row_in rows.now t.records k }
 {
-    let n = table::table_rows(rows.len(), t.records);
-    if n <= k {
-        return Entry::Nothing;
+    if k < table::table_rows(rows.len(), t.records) {
+        Some(table::read_row(rows, k))
+    } else {
+        None
     }
-    Entry::Row(table::read_row(rows, k))
 }
 
 // The last record with this id, or none.
-pub fn get(rows: &[u32], slots: &[u64], t: Tables, id: u32) -> Entry
-    ensures { told_entry result ≡ row_found rows.now (searched rows.now slots.now t.ids id) }
+pub fn get(rows: &[u32], slots: &[u64], t: Tables, id: u32) -> Option<RecordSpan>
+    ensures { option_map told_row result ≡ row_found rows.now (searched rows.now slots.now t.ids id) }
 {
-    let ids = t.ids;
-    match index::get(rows, slots, ids, id) {
-        FoundRow::Nothing => Entry::Nothing,
-        FoundRow::At(r) => Entry::Row(table::read_row(rows, common::wide(r))),
-    }
+    let row = index::get(rows, slots, t.ids, id)?;
+    Some(table::read_row(rows, row as usize))
 }
 
 // The same, or 14.
-pub fn require(rows: &[u32], slots: &[u64], t: Tables, id: u32) -> Required
-    ensures { told_required result ≡ required (row_found rows.now (searched rows.now slots.now t.ids id)) }
+pub fn require(rows: &[u32], slots: &[u64], t: Tables, id: u32) -> Result<RecordSpan, Fault>
+    ensures { mapped told_row (told_result result) ≡ required (row_found rows.now (searched rows.now slots.now t.ids id)) }
 {
-    match get(rows, slots, t, id) {
-        Entry::Nothing => Required::Refused(Fault::NoRecord),
-        Entry::Row(w) => Required::Row(w),
-    }
+    get(rows, slots, t, id).ok_or(Fault::NoRecord)
 }
 
 // Whether a span lies in a file of this length and runs forwards.
-fn fits(len: usize, a: usize, z: usize) -> bool
-    ensures { result ≡ span_fine len a z }
+fn fits(len: usize, span: Range) -> bool
+    ensures { result ≡ span_fine len span.start span.end }
 {
-    (a <= z) & (z <= len)
+    (span.start <= span.end) & (span.end <= len)
 }
 
 // A span of the file, or 9.
-fn span_in(len: usize, a: usize, z: usize) -> Spanned
-    ensures { told_span result ≡ span_in len a z }
+fn span_in(len: usize, span: Range) -> Result<Range, Fault>
+    ensures { told_result result ≡ span_in len span.start span.end }
 {
-    if fits(len, a, z) {
-        return Spanned::Span(Range { start: a, end: z });
+    if fits(len, span) {
+        Ok(span)
+    } else {
+        Err(Fault::OutOfFile)
     }
-    Spanned::Refused(Fault::OutOfFile)
 }
 
 // A row's keyword in the file.
-pub fn keyword(file: &[u8], row: RecordSpan) -> Spanned
-    ensures { told_span result ≡ span_in (length file.now) row.keyword.start row.keyword.end }
+pub fn keyword(file: &[u8], row: RecordSpan) -> Result<Range, Fault>
+    ensures { told_result result ≡ span_in (length file.now) row.keyword.start row.keyword.end }
 {
-    span_in(file.len(), row.keyword.start, row.keyword.end)
+    span_in(file.len(), row.keyword)
 }
 
 // A row's arguments in the file.
-pub fn args_of(file: &[u8], row: RecordSpan) -> Spanned
-    ensures { told_span result ≡ span_in (length file.now) row.args.start row.args.end }
+pub fn args_of(file: &[u8], row: RecordSpan) -> Result<Range, Fault>
+    ensures { told_result result ≡ span_in (length file.now) row.args.start row.args.end }
 {
-    span_in(file.len(), row.args.start, row.args.end)
+    span_in(file.len(), row.args)
 }
 
 // The arguments of the last record with this id; 14 where there is none.
-pub fn args(file: &[u8], rows: &[u32], slots: &[u64], t: Tables, id: u32) -> Spanned
-    ensures { told_span result ≡ args_by (length file.now) (row_found rows.now (searched rows.now slots.now t.ids id)) }
+pub fn args(file: &[u8], rows: &[u32], slots: &[u64], t: Tables, id: u32) -> Result<Range, Fault>
+    ensures { told_result result ≡ args_by (length file.now) (row_found rows.now (searched rows.now slots.now t.ids id)) }
 {
-    match get(rows, slots, t, id) {
-        Entry::Nothing => Spanned::Refused(Fault::NoRecord),
-        Entry::Row(w) => args_of(file, w),
-    }
+    args_of(file, require(rows, slots, t, id)?)
 }
 
 // A row's kind.
@@ -148,12 +113,10 @@ pub fn kind_in(file: &[u8], row: RecordSpan) -> Kind
     if row.complex == 1 {
         return Kind::Complex;
     }
-    let a = row.keyword.start;
-    let z = row.keyword.end;
-    if !fits(file.len(), a, z) {
+    if !fits(file.len(), row.keyword) {
         return Kind::Other;
     }
-    kinds::intern(&file[a..z])
+    kinds::intern(&file[row.keyword.start..row.keyword.end])
 }
 
 // The kind of the last record with this id; `Other` where there is none.
@@ -161,23 +124,19 @@ pub fn kind_of(file: &[u8], rows: &[u32], slots: &[u64], t: Tables, id: u32) -> 
     ensures { result ≡ kind_found file.now (row_found rows.now (searched rows.now slots.now t.ids id)) }
 {
     match get(rows, slots, t, id) {
-        Entry::Nothing => Kind::Other,
-        Entry::Row(w) => kind_in(file, w),
+        None => Kind::Other,
+        Some(row) => kind_in(file, row),
     }
 }
 
 // The next row of a kind, from row `from` on, in file order.
-pub fn by_kind(file: &[u8], rows: &[u32], t: Tables, kind: Kind, from: usize) -> RowOrNone
-    ensures { told_row_or_none result ≡ first_from (row_is_kind file.now rows.now kind) (table_rows rows.now t.records - from) from }
+pub fn by_kind(file: &[u8], rows: &[u32], t: Tables, kind: Kind, from: usize) -> Option<usize>
+    ensures { result ≡ first_from (row_is_kind file.now rows.now kind) (table_rows rows.now t.records - from) from }
 {
-    let n = table::table_rows(rows.len(), t.records);
-    let mut i = from;
-    while i < n {
-        let k = kind_in(file, table::read_row(rows, i));
-        if kinds::same_kind(k, kind) {
-            return RowOrNone::At(i);
+    for i in from..table::table_rows(rows.len(), t.records) {
+        if kind_in(file, table::read_row(rows, i)) == kind {
+            return Some(i);
         }
-        i += 1;
     }
-    RowOrNone::Nothing
+    None
 }

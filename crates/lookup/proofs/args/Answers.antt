@@ -1,10 +1,15 @@
-use mathlib.Core.Path.{sym, ◌∙◌, ap}
-use lib.ListN.{length}
-use Rattle.lookup.specs.Lookup.{told_entry, args_by}
+use Rattle.std.proofs.Common.{◌∙◌, ap, sym, length, ◌≡◌, rules, Err}
+use Rattle.std.specs.Prelude.{Result}
+use Rattle.error.specs.Refusal.{told, bad, told_result}
+use Rattle.index.specs.Search.{searched}
+use Rattle.statement.specs.Rows.{mapped, told_row}
+use Rattle.lookup.specs.Lookup.{row_found, required}
+use Rattle.lookup.specs.Laws.{args_refused}
 use Rattle.lookup.proofs.args.Goals as goal
 
-pub returns-in-Nothing : goal.returns-in-Nothing
-returns-in-Nothing c = ap (args_by (length c.args.file.now)) (sym (ap told_entry c.in-Nothing.is) ∙ c.get.ensures)
-
-pub returns-in-Row : goal.returns-in-Row
-returns-in-Row c = c.args_of.ensures ∙ ap (args_by (length c.args.file.now)) (sym (ap told_entry c.in-Row.is) ∙ c.get.ensures)
+pub returns-in_err-require : goal.returns-in_err-require
+returns-in_err-require c =
+    let a = c.args in
+    let k : c.from_residual.result ≡ Err c.in_err-require.field-0.0 = search rules in
+    let q : bad (told c.in_err-require.field-0.0) ≡ required (row_found a.rows.now (searched a.rows.now a.slots.now a.t.ids a.id)) = search rules in
+    ap told_result k ∙ args_refused (length a.file.now) (row_found a.rows.now (searched a.rows.now a.slots.now a.t.ids a.id)) _ q
