@@ -13,9 +13,9 @@ use Rattle.error.specs.declared.Fault.{Fault}
 use Rattle.error.specs.declared.Fault.TheVariants.{OpenLiteral}
 use Rattle.params.specs.declared.Cut.{Cut}
 use Rattle.common.specs.Compare.{clash}
-use Rattle.std.specs.Result.{MatchResult, IsErrAnd}
+use Rattle.std.specs.Result.{MatchResult, IsErrAnd, result_unwrap_or}
 use Rattle.std.proofs.lemmas.Result.{err_from_is_err_and}
-use Rattle.error.specs.Refusal.{Refusal, refusal, good, bad}
+use Rattle.error.specs.Refusal.{Refusal, refusal, good, bad, told, told_result}
 use Rattle.lex.specs.Byte.{white, place}
 use Rattle.lex.specs.Place.{place_drop}
 use Rattle.lex.specs.Search.{trivia}
@@ -44,6 +44,12 @@ started_open xs i q = go (trivia (drop i xs))
     go : (x : Sought) → bad q ≡ placed xs x → drop (length xs) xs ≡ runs_out x
     go (at r) e = let z : ◌≡◌ {A = ℕ} 0 1 = cc in absurd (omega arith)
     go (fault n o) e = drop_end xs (length xs) (omega arith)
+
+-- what is left after trivia, and where that is: an open comment runs to the end
+pub started_past : (xs : List ℕ) (i : ℕ) (r : Result ℕ Fault) → i ≤ length xs → told_result r ≡ placed xs (trivia (drop i xs))
+    → (drop (result_unwrap_or r (length xs)) xs ≡ started (drop i xs)) × (i ≤ result_unwrap_or r (length xs)) × (result_unwrap_or r (length xs) ≤ length xs)
+started_past xs i (Ok p) h e = started_at xs i p h e
+started_past xs i (Err f) h e = (started_open xs i (told f) e, h, omega arith)
 
 -- a byte above the space that is no slash begins no trivia
 pub started_here : (xs : List ℕ) (i : ℕ) → i < length xs → ltb 32 (get_or xs i 0) && not (eqb (get_or xs i 0) 47) ≡ true → started (drop i xs) ≡ drop i xs

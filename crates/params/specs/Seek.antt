@@ -1,6 +1,6 @@
 -- What the token at a place of the bytes up to the reader's end does to the search for a parameter's end: the laws that the loop of the
 -- code goes by, one for each way out of it. Assumes nothing.
-use Rattle.std.specs.Prelude.{ℕ, zero, suc, ◌+◌, ◌-◌, ◌<◌, ◌≤◌, ◌^◌, ◌≡◌, refl, Bool, true, false, List, [], ◌∷◌, ◌++◌, eqb, length, drop, get_or}
+use Rattle.std.specs.Prelude.{ℕ, zero, suc, ◌+◌, ◌-◌, ◌<◌, ◌≤◌, ◌^◌, ◌≡◌, refl, Bool, true, false, List, [], ◌∷◌, ◌++◌, Option, Some, None, Result, Ok, Err, eqb, length, drop, get_or}
 use Rattle.std.proofs.Common.{sym, ◌∙◌, ap, append-nil, arith, drop-drop, eqb-true, ne_eqb}
 use Rattle.std.proofs.lemmas.Bool.{eqb-false}
 use Rattle.common.specs.Pick.{pick}
@@ -9,15 +9,12 @@ use Rattle.common.specs.Compare.{clash}
 use Rattle.lex.specs.Byte.{white}
 use Rattle.tokens.specs.Answer.{from_byte, heads_with, ends_before, never, told_token_end, TokenEndIn}
 use Rattle.tokens.specs.TokenRests.{string_rest, comment_rest}
-use Rattle.tokens.specs.declared.TokenEnd.{TokenEnd}
-use Rattle.tokens.specs.declared.TokenEnd as PastCode
 use Rattle.tokens.specs.Laws.{string_is, string_never, comment_is, comment_never, byte_found}
 use Rattle.params.specs.Grammar.{Without, Ordinary, Token, Bound}
 use Rattle.params.specs.ParameterEnd.{cut_of}
 use Rattle.params.specs.Answer.{ParamEnd, stops_before, literal_open}
 use Rattle.params.specs.Right.{param_plainly, param_blank_step, param_comment_step, param_remark_stuck, param_string_step, param_text_stuck, binary_step, param_byte_step, token_step, bound_stops, without_cons, without_nil, binary_unended, binary_stuck}
-use Rattle.params.specs.declared.Step.{Step}
-use Rattle.params.specs.declared.Step as StepCode
+use Rattle.params.specs.declared.Search.{Search}
 
 -- the search from i on, outside literals and comments, the parameter reaching to z, with d open parentheses
 abbrev pub search_from : List ℕ → ℕ → ℕ → ℕ → ParamEnd
@@ -36,11 +33,14 @@ pub record StandingAtByte (xs : List ℕ) (i z d c : ℕ) : Type 0 where
   pub standing : Standing xs i z d
   pub byte : get_or xs i 0 ≡ c
 
--- what the token at i does: the comma is there, a literal is open, or the search goes on from j
-abbrev pub ParamStep : List ℕ → ℕ → ℕ → ℕ → Step → Type 0
-ParamStep xs i z d StepCode.TheVariants.Comma = search_from xs i z d ≡ stops_before (drop z xs) (drop i xs)
-ParamStep xs i z d StepCode.TheVariants.Open = search_from xs i z d ≡ literal_open (drop i xs)
-ParamStep xs i z d (StepCode.TheVariants.On j y e) = (search_from xs i z d ≡ search_from xs j y e) × (i < j) × (j ≤ length xs) × (z ≤ y) × (y ≤ j) × (e ≤ d + 1)
+-- what the token at i does, which is no comma at depth 0: a literal is open, or the search goes on
+abbrev pub ParamStep : List ℕ → ℕ → ℕ → ℕ → Result Search ℕ → Type 0
+ParamStep xs i z d (Err q) = (q ≡ i) × (search_from xs i z d ≡ literal_open (drop i xs))
+ParamStep xs i z d (Ok s) = (search_from xs i z d ≡ search_from xs s.at s.solid s.depth) × (i < s.at) × (s.at ≤ length xs) × (z ≤ s.solid) × (s.solid ≤ s.at) × (s.depth ≤ d + 1)
+
+-- the search at a place, what the parameter reaches to, and the open parentheses
+abbrev pub search_at : ℕ → ℕ → ℕ → Search
+search_at i z d = record { at = i; solid = z; depth = d }
 
 -- what stands before the first byte b of a list has no b
 found_after : (b : ℕ) (xs : List ℕ) → (u : List ℕ) × Without b u × (xs ≡ u ++ from_byte b xs)
@@ -175,6 +175,15 @@ module _ (xs : List ℕ) (i z d : ℕ) (h : i < length xs) where
     comma = n44;
   })
 
+  -- the search goes on after a comma that does not cut the parameter, and after a byte that is no comma
+  pub step_rest : (get_or xs i 0 ≡ 44 → d ≡ 0 → ⊥) → (get_or xs i 0 ≡ 40 → ⊥) → (get_or xs i 0 ≡ 41 → ⊥) → (get_or xs i 0 ≡ 39 → ⊥) → (get_or xs i 0 ≡ 34 → ⊥) → (get_or xs i 0 ≡ 47 → ⊥) → white (get_or xs i 0) ≡ false
+      → search_from xs i z d ≡ search_from xs (i + 1) (i + 1) d
+  step_rest n44 n40 n41 n39 n34 n47 w = go (eqb (get_or xs i 0) 44) refl
+    where
+      go : (k : Bool) → eqb (get_or xs i 0) 44 ≡ k → search_from xs i z d ≡ search_from xs (i + 1) (i + 1) d
+      go true e = let f = eqb-true (get_or xs i 0) 44 e in step_nested f (n44 f)
+      go false e = step_other (eqb-false (get_or xs i 0) 44 e) n40 n41 n39 n34 n47 w
+
 -- where the bytes end, the search cuts the parameter
 pub onward_over : (xs : List ℕ) (i z d : ℕ) → length xs ≤ i → search_from xs i z d ≡ stops_before (drop z xs) (drop (length xs) xs)
 onward_over xs i z d h = rw (drop_end xs i h, drop_end xs (length xs) (omega arith)) (bound_stops (drop z xs) {d = d} Bound.end)
@@ -187,29 +196,29 @@ onward_starts xs start from e = rw e refl
 -- The ways out of the code's steps.
 module _ (xs : List ℕ) (i z d : ℕ) where
   -- where a string that opens at i ends, the code's step goes on after it
-  pub param_text_past : (r : TokenEnd) (j : ℕ) → StandingAtByte xs i z d 39 → told_token_end xs r ≡ string_rest (drop (i + 1) xs) → TokenEndIn (i + 1) (length xs) r → r ≡ PastCode.TheVariants.At j
-      → ParamStep xs i z d (StepCode.TheVariants.On j j d)
+  pub param_text_past : (r : Option ℕ) (j : ℕ) → StandingAtByte xs i z d 39 → told_token_end xs r ≡ string_rest (drop (i + 1) xs) → TokenEndIn (i + 1) (length xs) r → r ≡ Some j
+      → ParamStep xs i z d (Ok (search_at j j d))
   param_text_past r j s e (w) f = let (a, b) = rw f at w in
       let k = s.standing in
       (step_string xs i z d k.place j s.byte (ap (told_token_end xs) (sym f) ∙ e), omega arith, b, omega (arith, k.reach), omega arith, omega arith)
 
   -- where a string that opens at i never ends, the code's step is an open literal
-  pub param_text_never : (r : TokenEnd) → StandingAtByte xs i z d 39 → told_token_end xs r ≡ string_rest (drop (i + 1) xs) → r ≡ PastCode.TheVariants.Never → ParamStep xs i z d StepCode.TheVariants.Open
-  param_text_never r s e f = step_open xs i z d s.standing.place s.byte (ap (told_token_end xs) (sym f) ∙ e)
+  pub param_text_never : (r : Option ℕ) → StandingAtByte xs i z d 39 → told_token_end xs r ≡ string_rest (drop (i + 1) xs) → r ≡ None → ParamStep xs i z d (Err i)
+  param_text_never r s e f = (refl, step_open xs i z d s.standing.place s.byte (ap (told_token_end xs) (sym f) ∙ e))
 
   -- where a comment that opens at i ends, the code's step goes on after it
-  pub comment_past : (r : TokenEnd) (j : ℕ) → StandingAtByte xs i z d 47 → heads_with 42 (drop (i + 1) xs) ≡ true → told_token_end xs r ≡ comment_rest (drop (i + 2) xs) → TokenEndIn (i + 2) (length xs) r → r ≡ PastCode.TheVariants.At j
-      → ParamStep xs i z d (StepCode.TheVariants.On j z d)
+  pub comment_past : (r : Option ℕ) (j : ℕ) → StandingAtByte xs i z d 47 → heads_with 42 (drop (i + 1) xs) ≡ true → told_token_end xs r ≡ comment_rest (drop (i + 2) xs) → TokenEndIn (i + 2) (length xs) r → r ≡ Some j
+      → ParamStep xs i z d (Ok (search_at j z d))
   comment_past r j s g e w f = let (a, b) = rw f at w in
       let k = s.standing in
       (step_comment xs i z d k.place j s.byte (sym g) (ap (told_token_end xs) (sym f) ∙ e), omega arith, b, omega arith, omega (arith, k.reach), omega arith)
 
   -- where a comment that opens at i never ends, the code's step goes on at the end
-  pub comment_stuck : (r : TokenEnd) → StandingAtByte xs i z d 47 → heads_with 42 (drop (i + 1) xs) ≡ true → told_token_end xs r ≡ comment_rest (drop (i + 2) xs) → r ≡ PastCode.TheVariants.Never
-      → ParamStep xs i z d (StepCode.TheVariants.On (length xs) z d)
+  pub comment_stuck : (r : Option ℕ) → StandingAtByte xs i z d 47 → heads_with 42 (drop (i + 1) xs) ≡ true → told_token_end xs r ≡ comment_rest (drop (i + 2) xs) → r ≡ None
+      → ParamStep xs i z d (Ok (search_at (length xs) z d))
   comment_stuck r s g e f = let k = s.standing in
       (step_remark xs i z d k.place s.byte (sym g) (ap (told_token_end xs) (sym f) ∙ e), k.place, omega arith, omega arith, omega (arith, k.reach, k.place), omega arith)
 
   -- after one byte that is the parameter's, the code's step goes on at the next
-  pub on_byte : (e : ℕ) → Standing xs i z d → search_from xs i z d ≡ search_from xs (i + 1) (i + 1) e → e ≤ d + 1 → ParamStep xs i z d (StepCode.TheVariants.On (i + 1) (i + 1) e)
+  pub on_byte : (e : ℕ) → Standing xs i z d → search_from xs i z d ≡ search_from xs (i + 1) (i + 1) e → e ≤ d + 1 → ParamStep xs i z d (Ok (search_at (i + 1) (i + 1) e))
   on_byte e k f g = (f, omega arith, omega (arith, k.place), omega (arith, k.reach), omega arith, g)

@@ -5,17 +5,15 @@
 // that places are the file's. A refusal leaves the reader where document 01 says.
 #![tactic(auto)]
 
-ghost use Rattle.std.specs.Prelude.{◌≡◌, true, false, ◌&&◌, ◌+◌, ◌-◌, ◌≤◌, ◌<◌, ◌^◌, min, length, take, drop};
+ghost use Rattle.std.specs.Prelude.{◌≡◌, true, false, ◌&&◌, ◌+◌, ◌-◌, ◌≤◌, ◌<◌, ◌^◌, min, Ok, length, take, drop, get_or};
 ghost use Rattle.params.specs.ParameterEnd.{cut_of, started};
-ghost use Rattle.params.specs.Seek.{Standing, StandingAtByte, ParamStep, search_from};
+ghost use Rattle.params.specs.Seek.{Standing, StandingAtByte, ParamStep, search_from, search_at};
 ghost use Rattle.error.specs.Refusal.{told_result};
 ghost use Rattle.params.specs.Answer.{ended_at, EndedIn, reader_in_file, told_read, NextParamIn, opened_of};
 ghost use Rattle.params.specs.Reader.{param_of};
 ghost use Rattle.params.specs.Skips.{empty_of, skip_of, skips_of};
 
 use error::Fault;
-use lex::FoundPlace;
-use tokens::TokenEnd;
 
 // Where a reader stands, and up to where it reads.
 #[derive(Clone, Copy, PartialEq, Eq)]
@@ -38,91 +36,101 @@ pub struct Cut {
     pub bound: usize,
 }
 
-// What the token at a place does to the search for a parameter's end: the comma is there, a literal is open, or the search goes on
-// from a place, with what the parameter then reaches to and so many open parentheses.
+// Where the search for a parameter's end stands, outside literals and comments: the place, what the parameter reaches to before it, and
+// so many open parentheses.
 #[derive(Clone, Copy)]
-enum Step {
-    Comma,
-    Open,
-    On(usize, usize, usize),
+struct Search {
+    at: usize,
+    solid: usize,
+    depth: usize,
 }
 
-// A comma: of the parameter, or of a list in it.
-fn comma_step(part: &[u8], i: usize, solid: usize, depth: usize) -> Step
-    requires { StandingAtByte part.now i solid depth 44 }
-    ensures { ParamStep part.now i solid depth result }
-{
-    if depth < 1 {
-        return Step::Comma;
+impl Search {
+    // On to a place, and the parameter reaches to it.
+    fn to(self, place: usize) -> Search
+        ensures { result ≡ search_at place place self.depth }
+    {
+        Search {
+            at: place,
+            solid: place,
+            depth: self.depth,
+        }
     }
-    Step::On(i + 1, i + 1, depth)
-}
 
-// A quote, which opens a string.
-fn text_step(part: &[u8], i: usize, solid: usize, depth: usize) -> Step
-    requires { StandingAtByte part.now i solid depth 39 }
-    ensures { ParamStep part.now i solid depth result }
-{
-    match tokens::string_end(part, i + 1) {
-        TokenEnd::At(j) => Step::On(j, j, depth),
-        TokenEnd::Never => Step::Open,
+    // On to a place, past trivia.
+    fn past(self, place: usize) -> Search
+        ensures { result ≡ search_at place self.solid self.depth }
+    {
+        Search { at: place, ..self }
     }
 }
 
-// A `"`, which opens a binary literal.
-fn binary_step(part: &[u8], i: usize, solid: usize, depth: usize) -> Step
-    requires { StandingAtByte part.now i solid depth 34 }
-    ensures { ParamStep part.now i solid depth result }
+// A quote, which opens a string; its place is the answer where the string never ends.
+fn text_step(part: &[u8], s: Search) -> Result<Search, usize>
+    requires { StandingAtByte part.now s.at s.solid s.depth 39 }
+    ensures { ParamStep part.now s.at s.solid s.depth result }
 {
-    let q = tokens::find_byte(part, i + 1, b'"');
+    match tokens::string_end(part, s.at + 1) {
+        Some(j) => Ok(s.to(j)),
+        None => Err(s.at),
+    }
+}
+
+// A `"`, which opens a binary literal; its place is the answer where the literal never ends.
+fn binary_step(part: &[u8], s: Search) -> Result<Search, usize>
+    requires { StandingAtByte part.now s.at s.solid s.depth 34 }
+    ensures { ParamStep part.now s.at s.solid s.depth result }
+{
+    let q = tokens::find_byte(part, s.at + 1, b'"');
     if q == part.len() {
-        return Step::Open;
+        return Err(s.at);
     }
-    Step::On(q + 1, q + 1, depth)
+    Ok(s.to(q + 1))
 }
 
 // A slash: it opens a comment, which is no part of the parameter where it ends it, or is a byte of the parameter.
-fn slash_step(part: &[u8], i: usize, solid: usize, depth: usize) -> Step
-    requires { StandingAtByte part.now i solid depth 47 }
-    ensures { ParamStep part.now i solid depth result }
+fn slash_step(part: &[u8], s: Search) -> Search
+    requires { StandingAtByte part.now s.at s.solid s.depth 47 }
+    ensures { ParamStep part.now s.at s.solid s.depth (Ok result) }
 {
-    if !tokens::is_at(part, i + 1, b'*') {
-        return Step::On(i + 1, i + 1, depth);
+    if !tokens::is_at(part, s.at + 1, b'*') {
+        return s.to(s.at + 1);
     }
-    match tokens::comment_end(part, i + 2) {
-        TokenEnd::At(j) => Step::On(j, solid, depth),
-        TokenEnd::Never => Step::On(part.len(), solid, depth),
+    match tokens::comment_end(part, s.at + 2) {
+        Some(j) => s.past(j),
+        None => s.past(part.len()),
     }
 }
 
-// The token at i, outside literals and comments.
-fn token_at(part: &[u8], i: usize, solid: usize, depth: usize) -> Step
-    requires { Standing part.now i solid depth }
-    ensures { ParamStep part.now i solid depth result }
+// Past the token that stands there, which is no comma at depth 0; or the quote of a literal that is open.
+fn past_token(part: &[u8], s: Search) -> Result<Search, usize>
+    requires standing { Standing part.now s.at s.solid s.depth }
+    requires uncut { get_or part.now s.at 0 ≡ 44 → s.depth ≡ 0 → ⊥ }
+    ensures { ParamStep part.now s.at s.solid s.depth result }
 {
-    let b = part[i];
-    if b == b',' {
-        return comma_step(part, i, solid, depth);
-    }
-    if b == b'(' {
-        return Step::On(i + 1, i + 1, depth + 1);
-    }
-    if b == b')' {
-        return Step::On(i + 1, i + 1, depth.saturating_sub(1));
-    }
+    let b = part[s.at];
     if b == b'\'' {
-        return text_step(part, i, solid, depth);
+        return text_step(part, s);
     }
     if b == b'"' {
-        return binary_step(part, i, solid, depth);
+        return binary_step(part, s);
     }
     if b == b'/' {
-        return slash_step(part, i, solid, depth);
+        return Ok(slash_step(part, s));
     }
     if lex::is_space(b) {
-        return Step::On(i + 1, solid, depth);
+        return Ok(s.past(s.at + 1));
     }
-    Step::On(i + 1, i + 1, depth)
+    let next = s.to(s.at + 1);
+    if b == b'(' {
+        let depth = s.depth + 1;
+        return Ok(Search { depth, ..next });
+    }
+    if b == b')' {
+        let depth = s.depth.saturating_sub(1);
+        return Ok(Search { depth, ..next });
+    }
+    Ok(next)
 }
 
 // The place after the bytes above the slash that stand from i on: such a byte is always one of the parameter's own, and most are. A loop
@@ -131,15 +139,12 @@ fn past_plain(part: &[u8], i: usize) -> usize
     requires { i ≤ length part.now }
     ensures { (i ≤ result) × (result ≤ length part.now) × ((d : _) → search_from part.now i i d ≡ search_from part.now result result d) }
 {
-    let mut j = i;
-    while j < part.len() {
-        if part[j] > b'/' {
-            j += 1;
-        } else {
+    for j in i..part.len() {
+        if part[j] <= b'/' {
             return j;
         }
     }
-    j
+    part.len()
 }
 
 // Finds where the parameter ends that starts at `start`, or the quote of a literal that is open in it.
@@ -148,33 +153,24 @@ pub fn param_end(part: &[u8], start: usize) -> Result<Cut, usize>
     ensures ended_in { EndedIn (min start (length part.now)) (length part.now) result }
 {
     let from = start.min(part.len());
-    let mut i = from;
-    let mut solid = from;
-    let mut depth: usize = 0;
-    while i < part.len() {
-        if part[i] > b'/' {
-            i = past_plain(part, i + 1);
-            solid = i;
+    let mut s = Search {
+        at: from,
+        solid: from,
+        depth: 0,
+    };
+    while s.at < part.len() {
+        let b = part[s.at];
+        if b > b'/' {
+            s = s.to(past_plain(part, s.at + 1));
+        } else if (b == b',') & (s.depth == 0) {
+            break;
         } else {
-            match token_at(part, i, solid, depth) {
-                Step::Comma => {
-                    return Ok(Cut {
-                        stop: solid,
-                        bound: i,
-                    });
-                }
-                Step::Open => return Err(i),
-                Step::On(j, reached, open) => {
-                    i = j;
-                    solid = reached;
-                    depth = open;
-                }
-            }
+            s = past_token(part, s)?;
         }
     }
     Ok(Cut {
-        stop: solid,
-        bound: part.len(),
+        stop: s.solid,
+        bound: s.at,
     })
 }
 
@@ -197,10 +193,7 @@ fn past_trivia(part: &[u8], place: usize) -> usize
     if is_dark(part, place) {
         return place;
     }
-    match lex::skip_trivia(part, place) {
-        FoundPlace::At(p) => p,
-        FoundPlace::Refused(_) => part.len(),
-    }
+    lex::skip_trivia(part, place).unwrap_or(part.len())
 }
 
 fn in_file(n: usize, place: usize, end: usize) -> bool
@@ -278,7 +271,7 @@ pub fn skip_n(file: &[u8], at: &mut State, n: usize) -> Result<(), Fault>
     if !in_file(file.len(), at.place, at.end) {
         return Err(Fault::OutOfFile);
     }
-    for i in 0..n {
+    for _i in 0..n {
         skip(file, at)?;
     }
     Ok(())

@@ -1,14 +1,15 @@
-use Rattle.params.specs.Seek.{ParamStep, step_plain, onward_over, onward_starts}
-use lib.ListN.{drop}
+use Rattle.params.specs.Seek.{step_comma, step_plain, onward_over, onward_starts}
+use lib.ListN.{length, drop}
 use Prim.Native.Nat.{ℕ}
-use mathlib.Core.Path.{◌∙◌, sym, ap}
+use mathlib.Core.Path.{◌≡◌, ◌∙◌, sym, ap}
 use native.Mathlib.Omega.{arith}
-use Rattle.params.specs.declared.Step as StepCode
+use Rattle.std.proofs.Common.{eqb, get_or, eqb-true}
+use Rattle.common.specs.Tests.{both}
 use Rattle.lex.specs.Seek.{drop_within}
 use Rattle.params.proofs.param_end.Goals as goal
 
-pub loop-i-init : goal.loop-i-init
-loop-i-init c = let s = c.args.part.now in
+pub loop-s-init : goal.loop-s-init
+loop-s-init c = let s = c.args.part.now in
     let w = c.min-from.ensures in (
       omega arith,
       omega arith,
@@ -17,49 +18,25 @@ loop-i-init c = let s = c.args.part.now in
       onward_starts s c.args.start c.min-from.result (ap (λ (k : ℕ). drop k s) w ∙ drop_within s c.args.start),
     )
 
-pub loop-i-smaller-then-part-i-gt47 : goal.loop-i-smaller-then-part-i-gt47
-loop-i-smaller-then-part-i-gt47 c = let r = c.past_plain-i.ensures.0 in let n = c.past_plain-i.ensures.1 in omega (arith, r, n)
-
-pub loop-i-preserved-then-part-i-gt47 : goal.loop-i-preserved-then-part-i-gt47
-loop-i-preserved-then-part-i-gt47 c = let l = c.loop-i in
+pub loop-s-preserved-then-b-gt47 : goal.loop-s-preserved-then-b-gt47
+loop-s-preserved-then-b-gt47 c = let l = c.loop-s in
     let s = c.args.part.now in
-    let r = c.past_plain-i.ensures.0 in
-    let f = l.invariant.0 in
-    let o = l.invariant.1 in
-    let d = l.invariant.3 in
-    (omega (arith, r, f, o), omega arith, c.past_plain-i.ensures.1, omega (arith, r, d), sym (c.past_plain-i.ensures.2 l.depth) ∙ sym (step_plain s l.i l.solid l.depth (omega arith) c.if-part-i-gt47.true) ∙ l.invariant.4)
+    let p = c.past_plain.ensures in
+    let r = p.0 in
+    let v = l.invariant in
+    let f = v.0 in
+    let o = v.1 in
+    let d = v.3 in
+    rw c.to-s.ensures (omega (arith, r, f, o), omega arith, p.1, omega (arith, r, d), sym (p.2 l.s.depth) ∙ sym (step_plain s l.s.at l.s.solid l.s.depth (omega arith) c.if-b-gt47.true) ∙ v.4)
 
-pub token_at-requires : goal.token_at-requires
-token_at-requires c = let l = c.loop-i in record {
-  place = omega arith;
-  reach = omega arith;
-  few = omega arith;
-  bounded = omega (arith, c.well_formed.0.1);
-}
-
-pub returns-in-Comma : goal.returns-in-Comma
-returns-in-Comma c = let l = c.loop-i in
-    let k : ParamStep c.args.part.now l.i l.solid l.depth StepCode.TheVariants.Comma = rw c.in-Comma.is at c.token_at.ensures in
-    record { result_value = sym k ∙ l.invariant.4; ended_in = (omega (arith, c.min-from.ensures), omega arith, omega arith) }
-
-pub returns-in-Open : goal.returns-in-Open
-returns-in-Open c = let l = c.loop-i in
-    let k : ParamStep c.args.part.now l.i l.solid l.depth StepCode.TheVariants.Open = rw c.in-Open.is at c.token_at.ensures in
-    record { result_value = sym k ∙ l.invariant.4; ended_in = (omega (arith, c.min-from.ensures), omega arith) }
-
-pub loop-i-smaller : goal.loop-i-smaller
-loop-i-smaller c = let l = c.loop-i in
-    let g = c.in-On in
-    let k : ParamStep c.args.part.now l.i l.solid l.depth (StepCode.TheVariants.On g.j g.reached g.open) = rw g.is at c.token_at.ensures in
-    omega (arith, k.1, k.2)
-
-pub loop-i-preserved : goal.loop-i-preserved
-loop-i-preserved c = let l = c.loop-i in
-    let g = c.in-On in
-    let k : ParamStep c.args.part.now l.i l.solid l.depth (StepCode.TheVariants.On g.j g.reached g.open) = rw g.is at c.token_at.ensures in
-    (omega (arith, k.3), omega (arith, k.4), omega (arith, k.2), omega (arith, k.1, k.5), sym k.0 ∙ l.invariant.4)
-
-pub returns : goal.returns
-returns c = let l = c.loop-i in
+pub returns-after-loop-s-clause-result_value : goal.returns-after-loop-s-clause-result_value
+returns-after-loop-s-clause-result_value c = let l = c.loop-s.s in
     let s = c.args.part.now in
-    record { result_value = sym (onward_over s l.i l.solid l.depth (omega arith)) ∙ l.invariant.4; ended_in = (omega (arith, c.min-from.ensures), omega arith, omega arith) }
+    let k : l.at ≡ length s = omega (arith, c.loop-s.invariant.2) in
+    rw k (sym (onward_over s l.at l.solid l.depth (omega arith)) ∙ c.loop-s.invariant.4)
+
+pub returns-then-b-s-clause-result_value : goal.returns-then-b-s-clause-result_value
+returns-then-b-s-clause-result_value c = let l = c.loop-s.s in
+    let s = c.args.part.now in
+    let (a, b) = both (eqb (get_or s l.at 0) 44) (eqb l.depth 0) c.if-b-s.true in
+    sym (step_comma s l.at l.solid l.depth c.loop-s-test.true (eqb-true (get_or s l.at 0) 44 a) (eqb-true l.depth 0 b)) ∙ c.loop-s.invariant.4

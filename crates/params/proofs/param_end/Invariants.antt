@@ -5,8 +5,8 @@ use Prim.Native.Nat.{◌-◌, ◌≤◌}
 use mathlib.Core.Path.{◌≡◌}
 use Rattle.params.proofs.param_end.Given as goal
 
-abbrev pub invariant-loop-i : goal.invariant-loop-i
-invariant-loop-i l = (l.from ≤ l.solid) × (l.solid ≤ l.i) × (l.i ≤ length l.part) × (l.depth ≤ l.i) × (search_from l.part l.i l.solid l.depth ≡ cut_of (drop l.start l.part))
+abbrev pub invariant-loop-s : goal.invariant-loop-s
+invariant-loop-s l = (l.from ≤ l.s.solid) × (l.s.solid ≤ l.s.at) × (l.s.at ≤ length l.part) × (l.s.depth ≤ l.s.at) × (search_from l.part l.s.at l.s.solid l.s.depth ≡ cut_of (drop l.start l.part))
 
-abbrev pub decreases-loop-i : goal.decreases-loop-i
-decreases-loop-i l = length l.part - l.i
+abbrev pub decreases-loop-s : goal.decreases-loop-s
+decreases-loop-s l = length l.part - l.s.at

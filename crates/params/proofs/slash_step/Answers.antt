@@ -5,10 +5,14 @@ use Rattle.params.proofs.slash_step.Goals as goal
 
 pub returns-then-not-is_at : goal.returns-then-not-is_at
 returns-then-not-is_at c = let p = c.requires in
-    on_byte c.args.part.now c.args.i c.args.solid c.args.depth c.args.depth p.standing (step_slash c.args.part.now c.args.i c.args.solid c.args.depth p.standing.place p.byte (sym c.if-not-is_at.true ∙ c.is_at.ensures)) (omega arith)
+    let s = c.args.s in
+    let b = c.args.part.now in
+    rw c.to.ensures (on_byte b s.at s.solid s.depth s.depth p.standing (step_slash b s.at s.solid s.depth p.standing.place p.byte (sym c.if-not-is_at.true ∙ c.is_at.ensures)) (omega arith))
 
-pub returns-in-At : goal.returns-in-At
-returns-in-At c = comment_past c.args.part.now c.args.i c.args.solid c.args.depth c.comment_end.result _ c.requires (sym c.is_at.ensures ∙ c.if-not-is_at.false) c.comment_end.ensures.result_value c.comment_end.ensures.token_end_in c.in-At.is
+pub returns-in-Some : goal.returns-in-Some
+returns-in-Some c = let s = c.args.s in
+    rw c.past.ensures (comment_past c.args.part.now s.at s.solid s.depth c.comment_end.result _ c.requires (sym c.is_at.ensures ∙ c.if-not-is_at.false) c.comment_end.ensures.result_value c.comment_end.ensures.token_end_in c.in-Some.is)
 
-pub returns-in-Never : goal.returns-in-Never
-returns-in-Never c = comment_stuck c.args.part.now c.args.i c.args.solid c.args.depth c.comment_end.result c.requires (sym c.is_at.ensures ∙ c.if-not-is_at.false) c.comment_end.ensures.result_value c.in-Never.is
+pub returns-in-None : goal.returns-in-None
+returns-in-None c = let s = c.args.s in
+    rw c.past-in-None.ensures (comment_stuck c.args.part.now s.at s.solid s.depth c.comment_end.result c.requires (sym c.is_at.ensures ∙ c.if-not-is_at.false) c.comment_end.ensures.result_value c.in-None.is)
