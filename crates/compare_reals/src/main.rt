@@ -7,7 +7,7 @@
 
 use input::Feed;
 use printing::{Line, Pen};
-use reals::{Real, Reals};
+use reals::{NotRead, Reals};
 
 // The patterns of what is printed, by their place in both tables. NOTHING is in none, and LONG and FAILED are in the second alone.
 const VALUE: usize = 1;
@@ -98,9 +98,9 @@ fn said(which: Reals, line: &[u8], feed: Feed, left: u64) -> Line {
 
 fn answer(which: Reals, t: &[u8]) -> Line {
     match reals::read_real(which, t) {
-        Real::Value(x) => put(VALUE, nearest::bits(x)),
-        Real::Outside => put(OUTSIDE, 0),
-        Real::NotReal => put(NOT_REAL, 0),
+        Ok(x) => put(VALUE, nearest::bits(x)),
+        Err(NotRead::Outside) => put(OUTSIDE, 0),
+        Err(NotRead::NotReal) => put(NOT_REAL, 0),
     }
 }
 
