@@ -3,5 +3,5 @@ use Prim.Native.Nat.{◌-◌}
 use mathlib.Core.Path.{◌≡◌}
 use Rattle.params.proofs.skip_n.Given as goal
 
-abbrev pub invariant-loop-_i : goal.invariant-loop-_i
-invariant-loop-_i l = skip_from (l.n - l._i) l.file l.at.place l.at.end ≡ skip_from l.n l.file l.fn.at.place l.fn.at.end
+abbrev pub invariant-loop-i : goal.invariant-loop-i
+invariant-loop-i l = skip_from (l.n - l.i) l.file l.at.place l.at.end ≡ skip_from l.n l.file l.fn.at.place l.fn.at.end
