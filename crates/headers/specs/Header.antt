@@ -1,17 +1,14 @@
 -- Header records looked up by keyword: `head` tells header row i, and there are n.
 -- Assumes nothing.
 -- Definitions to be believed: no law, and nothing computed that no theorem ties (docs/BELIEVE.md).
-use Rattle.std.specs.Prelude.{ℕ, Bool, ◌&&◌, List, map, length}
-use Rattle.std.proofs.Math.Option.{Option, none, some}
-use Rattle.error.specs.Refusal.{Told, good, bad, told}
+use Rattle.std.specs.Prelude.{ℕ, Bool, ◌&&◌, List, map, length, Option, Some, None}
+use Rattle.error.specs.Refusal.{Told, good}
 use Rattle.record.specs.Word.{same_bytes}
 use Rattle.record.specs.Byte.{upper}
 use Rattle.statement.specs.Rows.{mapped, HeaderRow}
 use Rattle.table.specs.Table.{header_rows, header_numbers}
-use Rattle.lookup.specs.Lookup.{FileSpan, file_span, span_fine, span_in, bytes_between}
+use Rattle.lookup.specs.Lookup.{FileSpan, span_fine, span_in, bytes_between}
 use Rattle.lookup.specs.First.{first_from}
-use Rattle.headers.specs.declared.HeaderFound.{HeaderFound}
-use Rattle.headers.specs.declared.HeaderFound.TheVariants as heading
 
 -- "letters in either case": a header row of the file s has this keyword; one whose keyword lies outside the file has none
 abbrev pub header_named : List ℕ → List ℕ → HeaderRow → Bool
@@ -31,19 +28,13 @@ header_found s heads n name = header_first s (header_numbers heads) (header_rows
 
 -- a header row's arguments, or 9
 abbrev pub header_arguments : ℕ → HeaderRow → Told (Option FileSpan)
-header_arguments len w = mapped some (span_in len w.arg_start w.arg_end)
+header_arguments len w = mapped Some (span_in len w.arg_start w.arg_end)
 
 -- the arguments of a header record that was found: none, 9, or the span
 abbrev pub header_args : ℕ → (ℕ → HeaderRow) → Option ℕ → Told (Option FileSpan)
-header_args len head none = good none
-header_args len head (some i) = header_arguments len (head i)
+header_args len head None = good None
+header_args len head (Some i) = header_arguments len (head i)
 
 -- the arguments of the first header record with a keyword, over a table in lent memory of which n rows are told
 abbrev pub args_found : List ℕ → List ℕ → ℕ → List ℕ → Told (Option FileSpan)
 args_found s heads n name = header_args (length s) (header_numbers heads) (header_found s heads n name)
-
--- what the code's answer says: a header record's arguments, or none, or 9
-abbrev pub told_header_found : HeaderFound → Told (Option FileSpan)
-told_header_found (heading.Span r) = good (some (file_span r.start r.end))
-told_header_found heading.Nothing = good none
-told_header_found (heading.Refused f) = bad (told f)

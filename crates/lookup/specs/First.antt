@@ -1,6 +1,6 @@
 -- The first of some rows of which a test holds, computed.
 -- Assumes nothing.
-use Rattle.std.specs.Prelude.{ℕ, zero, suc, ◌-◌, Bool, Option, Some, None}
+use Rattle.std.specs.Prelude.{ℕ, zero, suc, Bool, Option, Some, None}
 use Rattle.common.specs.Pick.{pick}
 
 -- the first of the next n rows, from row i on, of which a test holds

@@ -1,7 +1,7 @@
 -- Document 01, of the records themselves: "the last record of that id, or none", without a loop.
 -- Assumes nothing.
 -- Definitions to be believed: no law, and nothing computed that no theorem ties (docs/BELIEVE.md).
-use Rattle.std.specs.Prelude.{ℕ, ◌+◌, ◌≡◌, List, ◌∷◌, ◌++◌, Option, Some, None}
+use Rattle.std.specs.Prelude.{ℕ, ◌≡◌, List, ◌∷◌, ◌++◌, Option, Some, None}
 use Rattle.statement.specs.Rows.{Row}
 
 -- ---- the last record of an id, among records in file order

@@ -10,7 +10,7 @@ ghost use Rattle.error.specs.Refusal.{told_result};
 ghost use Rattle.index.specs.Search.{searched};
 ghost use Rattle.statement.specs.Rows.{mapped, told_row};
 ghost use Rattle.table.specs.Table.{table_rows};
-ghost use Rattle.lookup.specs.Lookup.{row_in, row_found, required, span_fine, span_in, args_by, kind_in, kind_found, row_is_kind};
+ghost use Rattle.lookup.specs.Lookup.{row_in, row_found, required, span_in, args_by, kind_in, kind_found, row_is_kind};
 ghost use Rattle.lookup.specs.First.{first_from};
 
 use error::Fault;
@@ -67,18 +67,11 @@ pub fn require(rows: &[u32], slots: &[u64], t: Tables, id: u32) -> Result<Record
     get(rows, slots, t, id).ok_or(Fault::NoRecord)
 }
 
-// Whether a span lies in a file of this length and runs forwards.
-fn fits(len: usize, span: Range) -> bool
-    ensures { result ≡ span_fine len span.start span.end }
-{
-    (span.start <= span.end) & (span.end <= len)
-}
-
-// A span of the file, or 9.
-fn span_in(len: usize, span: Range) -> Result<Range, Fault>
+// A span of a file of this length, or 9 where it lies outside the file or runs backwards.
+pub fn span_in(len: usize, span: Range) -> Result<Range, Fault>
     ensures { told_result result ≡ span_in len span.start span.end }
 {
-    if fits(len, span) {
+    if (span.start <= span.end) & (span.end <= len) {
         Ok(span)
     } else {
         Err(Fault::OutOfFile)
@@ -99,6 +92,7 @@ pub fn args_of(file: &[u8], row: RecordSpan) -> Result<Range, Fault>
     span_in(file.len(), row.args)
 }
 
+#[tactic(auto, using(crate::specs::Laws::args_refused))]
 // The arguments of the last record with this id; 14 where there is none.
 pub fn args(file: &[u8], rows: &[u32], slots: &[u64], t: Tables, id: u32) -> Result<Range, Fault>
     ensures { told_result result ≡ args_by (length file.now) (row_found rows.now (searched rows.now slots.now t.ids id)) }
@@ -113,10 +107,10 @@ pub fn kind_in(file: &[u8], row: RecordSpan) -> Kind
     if row.complex == 1 {
         return Kind::Complex;
     }
-    if !fits(file.len(), row.keyword) {
-        return Kind::Other;
+    match file.get(row.keyword.start..row.keyword.end) {
+        Some(keyword) => kinds::intern(keyword),
+        None => Kind::Other,
     }
-    kinds::intern(&file[row.keyword.start..row.keyword.end])
 }
 
 // The kind of the last record with this id; `Other` where there is none.

@@ -1,8 +1,6 @@
-use Rattle.std.proofs.Common.{◌∙◌, ap, sym, length, ◌≡◌, rules, Err}
-use Rattle.std.specs.Prelude.{Result}
+use Rattle.std.proofs.Common.{◌∙◌, ap, length, ◌≡◌, rules, Err}
 use Rattle.error.specs.Refusal.{told, bad, told_result}
 use Rattle.index.specs.Search.{searched}
-use Rattle.statement.specs.Rows.{mapped, told_row}
 use Rattle.lookup.specs.Lookup.{row_found, required}
 use Rattle.lookup.specs.Laws.{args_refused}
 use Rattle.lookup.proofs.args.Goals as goal

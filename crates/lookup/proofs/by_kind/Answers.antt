@@ -1,4 +1,4 @@
-use Rattle.std.proofs.Common.{sym, ◌∙◌, ap, ◌-◌, ℕ, eqb, ◌≡◌, true, false, rules, eq-eqb, ne_eqb}
+use Rattle.std.proofs.Common.{sym, ◌∙◌, ap, ◌-◌, ℕ, ◌≡◌, true, false, rules, eq-eqb, ne_eqb}
 use Rattle.kinds.specs.Kind.{rank_one}
 use Rattle.kinds.specs.Rules.{rank_of}
 use Rattle.lookup.specs.First.{first_from}
