@@ -1,10 +1,12 @@
 -- What the loops keep true, and that each turn keeps it. Laws for the proofs; no promise names them. Assumes nothing.
-use Rattle.std.specs.Prelude.{ℕ, zero, suc, ◌+◌, ◌-◌, ◌*◌, ◌/◌, ◌%◌, ◌^◌, ◌≤◌, ◌<◌, ◌≡◌, refl, List, length, take, drop, get_or, set}
-use Rattle.std.proofs.Common.{sym, ◌∙◌, ap, subst, mul-le-mul, div-add-mod', div-lt_iff_lt-mul, mod-lt, add-one, arith, length-set, drop-set-lt, take-take, drop-drop, get_or-drop, get_or-take, get_or-set_same}
+use Rattle.std.specs.Prelude.{ℕ, zero, suc, ◌+◌, ◌-◌, ◌*◌, ◌/◌, ◌%◌, ◌^◌, ◌≤◌, ◌<◌, ◌≡◌, refl, Bool, List, [], ◌∷◌, ◌||◌, not, eqb, ltb, length, take, drop, get_or, set}
+use Rattle.std.proofs.Common.{sym, ◌∙◌, ap, subst, mul-le-mul, div-add-mod', div-lt_iff_lt-mul, mod-lt, add-one, arith, inl, inr, ne_eqb, lt-ltb, le-ltb, length-set, drop-set-lt, take-take, drop-drop, get_or-drop, get_or-take, get_or-set_same}
+use Rattle.std.specs.List.{list_any}
+use Rattle.std.proofs.Math.Decide.{dec_lt}
 use Rattle.std.proofs.lemmas.List.{take-set-le}
 use Rattle.std.proofs.Math.Seq.{take-length, drop-length}
-use Rattle.limbs.specs.Worth.{worth, Scaled, Divided}
-use Rattle.limbs.specs.Laws.{power_more, worth_take, worth_drop, worth_pos}
+use Rattle.limbs.specs.Worth.{worth, Scaled, Divided, Highest}
+use Rattle.limbs.specs.Laws.{power_more, worth_take, worth_drop}
 
 -- two lists that agree from i on have the same digit at i
 at_drop : (xs ys : List ℕ) (i : ℕ) → drop i xs ≡ drop i ys → get_or xs i 0 ≡ get_or ys i 0
@@ -190,15 +192,35 @@ without_top xs (suc j) p h z e =
     put : (a b p x : ℕ) → b ≡ a + p * x → x ≡ 0 → a ≡ b
     put a b p x e z = sym (e ∙ ap (λ (n : ℕ). a + p * n) z ∙ omega arith)
 
--- first digits that make 0 make 0 with one more that is 0
-pub none_more : (xs : List ℕ) (i : ℕ) → i < length xs → worth (take i xs) ≡ 0 → get_or xs i 0 ≡ 0 → worth (take (i + 1) xs) ≡ 0
-none_more xs i h e z = rw add-one (worth_take xs i h ∙ ap (λ (n : ℕ). worth (take i xs) + 2 ^ (32 * i) * n) z ∙ (omega arith))
+-- a number is not 0 just where its digits moved up by one are not
+moved : (w : ℕ) → Dec (0 < w) → ltb 0 w ≡ ltb 0 (0 + 4294967296 * w)
+moved w (yes h) = lt-ltb 0 w h ∙ sym (lt-ltb 0 (0 + 4294967296 * w) (omega arith))
+moved w (no h) = le-ltb 0 w (omega arith) ∙ sym (le-ltb 0 (0 + 4294967296 * w) (omega arith))
 
--- where one of the first n digits is not 0, neither is their number
-pub one_below : (xs : List ℕ) (n i : ℕ) → i < n → 0 < get_or xs i 0 → 0 < worth (take n xs)
-one_below xs n i h p = worth_pos (take n xs) i (rw get_or-take p)
+-- one digit more below: it or the others tell whether the number is not 0
+any_more : (x w : ℕ) (b : Bool) → b ≡ ltb 0 w → Dec (0 < x) → (not (eqb x 0) || b) ≡ ltb 0 (x + 4294967296 * w)
+any_more x w b e (yes h) =
+    let l : 0 < x + 4294967296 * w = omega arith in
+    rw (ne_eqb x 0 (omega arith), lt-ltb 0 (x + 4294967296 * w) l) refl
+any_more x w b e (no h) =
+    let z : x ≡ 0 = omega arith in
+    rw z (e ∙ moved w (dec_lt 0 w))
 
--- no digits make 0
-pub none_first : (xs : List ℕ) → worth (take 0 xs) ≡ 0
+-- whether one of some digits is not 0 tells whether their number is not 0
+pub any_worth : (xs : List ℕ) → list_any (λ (x : ℕ). not (eqb x 0)) xs ≡ ltb 0 (worth xs)
 unfolding worth
-none_first xs = refl
+any_worth [] = refl
+any_worth (x ∷ xs) = any_more x (worth xs) (list_any (λ (y : ℕ). not (eqb y 0)) xs) (any_worth xs) (dec_lt 0 x)
+
+-- where the digit at i - 1 is not 0, and those from i on add nothing, i is how many digits there are
+pub highest_found : (xs : List ℕ) (i : ℕ) → 0 < i → i ≤ length xs → (get_or xs (i - 1) 0 ≡ 0 → ⊥) → worth (take i xs) ≡ worth xs → Highest xs (i - 1 + 1)
+highest_found xs i p h n e =
+    let z : i ≡ i - 1 + 1 = omega arith in
+    let r : Highest xs i = record { within = h; same = e; leads = inr (omega arith) } in
+    subst (Highest xs) z r
+
+-- where all digits add nothing, there are none
+pub highest_none : (xs : List ℕ) (i : ℕ) → i ≤ 0 → worth (take i xs) ≡ worth xs → Highest xs 0
+highest_none xs i h e =
+    let z : 0 ≡ i = omega arith in
+    record { within = omega arith; same = ap (λ (k : ℕ). worth (take k xs)) z ∙ e; leads = inl refl }

@@ -12,12 +12,10 @@ pub fn scale(a: &mut [u32], by: u32, add: u32) -> u32
     ensures { Scaled a.old by add a.new result }
 {
     let mut carry = add as u64;
-    let mut i: usize = 0;
-    while i < a.len() {
-        let t = a[i] as u64 * by as u64 + carry;
-        a[i] = (t % 0x1_0000_0000) as u32;
+    for x in a.iter_mut() {
+        let t = *x as u64 * by as u64 + carry;
+        *x = (t % 0x1_0000_0000) as u32;
         carry = t / 0x1_0000_0000;
-        i += 1;
     }
     carry as u32
 }
@@ -29,13 +27,11 @@ pub fn divide(a: &mut [u32], by: u32) -> u32
     if by == 0 {
         return 0;
     }
-    let mut rest: u64 = 0;
-    let mut i = a.len();
-    while 0 < i {
-        let t = rest * 0x1_0000_0000 + a[i - 1] as u64;
-        a[i - 1] = (t / by as u64) as u32;
+    let mut rest = 0;
+    for i in (0..a.len()).rev() {
+        let t = rest * 0x1_0000_0000 + a[i] as u64;
+        a[i] = (t / by as u64) as u32;
         rest = t % by as u64;
-        i -= 1;
     }
     rest as u32
 }
@@ -44,14 +40,12 @@ pub fn divide(a: &mut [u32], by: u32) -> u32
 fn highest(a: &[u32]) -> usize
     ensures { Highest a.now result }
 {
-    let mut n = a.len();
-    while 0 < n {
-        if a[n - 1] != 0 {
-            return n;
+    for i in (0..a.len()).rev() {
+        if a[i] != 0 {
+            return i + 1;
         }
-        n -= 1;
     }
-    n
+    0
 }
 
 // Whether one of the first n digits is not 0.
@@ -59,18 +53,12 @@ fn any_below(a: &[u32], n: usize) -> bool
     requires { n ≤ length a.now }
     ensures { result ≡ ltb 0 (worth (take n a.now)) }
 {
-    let mut i: usize = 0;
-    while i < n {
-        if a[i] != 0 {
-            return true;
-        }
-        i += 1;
-    }
-    false
+    a[..n].iter().any(|x| *x != 0)
 }
 
 // The leading 64 binary digits of a number, or all of fewer; how many stand below them, which are 32 for each of `limbs` and `bits` besides (their sum
 // can be larger than a `usize`), and whether one of those is not 0.
+// Kept: `more` says nothing of the other three, so no Option would be plainer.
 #[derive(Clone, Copy)]
 pub struct LeadingDigits {
     pub digits: u64,
@@ -84,13 +72,11 @@ fn short_top(a: &[u32], n: usize) -> u64
     requires { (n ≤ 2) × (n ≤ length a.now) }
     ensures { result ≡ worth (take n a.now) }
 {
-    if n == 0 {
-        return 0;
+    match n {
+        0 => 0,
+        1 => a[0] as u64,
+        _ => a[1] as u64 * 0x1_0000_0000 + a[0] as u64,
     }
-    if n == 1 {
-        return a[0] as u64;
-    }
-    a[1] as u64 * 0x1_0000_0000 + a[0] as u64
 }
 
 // Of three digits, the first not 0, the leading 64 binary digits: the first has `bits` of them, and so many of the last are left over.

@@ -1,4 +1,3 @@
-use borrow.Author.Rules.{rules}
 use Rattle.limbs.specs.Top.{joins, joined_lt}
 use Rattle.limbs.proofs.joined.Goals as goal
 

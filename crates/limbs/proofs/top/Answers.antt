@@ -17,9 +17,6 @@ returns-then-n-lt3 c =
 pub overflow_sub-bits-2 : goal.overflow_sub-bits-2
 overflow_sub-bits-2 c = leading_le 32 (get_or c.args.a.now (c.highest-n.result - 1) 0)
 
-pub overflow_cast-rest : goal.overflow_cast-rest
-overflow_cast-rest c = omega (arith, c.shared_slice_known-3-1.given (c.highest-n.result - 3))
-
 pub nonzero_rem-rest : goal.nonzero_rem-rest
 nonzero_rem-rest c =
     let b = bits_of (get_or c.args.a.now (c.highest-n.result - 1) 0) in
@@ -28,7 +25,7 @@ nonzero_rem-rest c =
 pub joined-requires : goal.joined-requires
 joined-requires c =
     let more : 3 ≤ c.highest-n.result = omega (arith, c.if-n-lt3.false) in
-    let b = high_bits c.args.a.now c.highest-n.result (λ i. (c.shared_slice_known-5-1.given i).fits) c.highest-n.ensures more in
+    let b = high_bits c.args.a.now c.highest-n.result (search rules) c.highest-n.ensures more in
     (b.0, b.1, b.2)
 
 pub returns : goal.returns
@@ -36,4 +33,4 @@ returns c =
     let n = c.highest-n.result in
     let more : 3 ≤ n = omega (arith, c.if-n-lt3.false) in
     let w = c.highest-n.ensures.within in
-    (head_long c.args.a.now n (λ i. (c.shared_slice_known-5-1.given i).fits) c.highest-n.ensures more c.joined.result c.any_below.result c.joined.ensures c.any_below.ensures, omega arith)
+    (head_long c.args.a.now n (search rules) c.highest-n.ensures more c.joined.result c.any_below.result c.joined.ensures c.any_below.ensures, omega arith)
