@@ -5,11 +5,9 @@
 -- Definitions to be believed: no law, and nothing computed that no theorem ties (docs/BELIEVE.md).
 use Rattle.std.specs.Prelude.{ℕ, zero, suc, ◌+◌, ◌*◌, ◌/◌, ◌%◌, ◌≤◌, Bool, true, ◌&&◌, List, [], ◌∷◌, ◌++◌, ltb, leb, eqb, length, drop, get_or}
 use Rattle.common.specs.Pick.{pick}
-use Rattle.error.specs.Refusal.{refusal, Told, good, bad, told}
+use Rattle.error.specs.Refusal.{refusal, Told, good, bad}
 use Rattle.statement.specs.Rows.{Row, row}
 use Rattle.table.specs.Table.{six, rows_laid, table_rows, row_numbers}
-use Rattle.rows_kept.specs.declared.KeptCount.{KeptCount}
-use Rattle.rows_kept.specs.declared.KeptCount.TheVariants.{Rows, Refused}
 
 -- "little-endian": the number of four bytes, the first counting least
 abbrev pub little : ℕ → ℕ → ℕ → ℕ → ℕ
@@ -99,8 +97,3 @@ kept_after r (bad q) old = old
 abbrev pub read_after : List ℕ → Told ℕ → List ℕ → List ℕ
 read_after bytes (good n) old = rows_laid (kept_rows_of bytes) old
 read_after bytes (bad q) old = old
-
--- what the code's answer about kept rows says
-abbrev pub told_kept_count : KeptCount → Told ℕ
-told_kept_count (Rows n) = good n
-told_kept_count (Refused f) = bad (told f)

@@ -1,4 +1,3 @@
 pub mod KeptRows
 pub mod Laws
 pub mod KeptRowsRight
-pub mod Only

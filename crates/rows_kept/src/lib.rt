@@ -6,19 +6,13 @@
 
 ghost use Rattle.std.specs.Prelude.{◌≡◌, ◌+◌, ◌*◌, ◌≤◌, ◌<◌, length};
 ghost use Rattle.std.proofs.lemmas.List.Edits.{sets};
+ghost use Rattle.error.specs.Refusal.{told_result};
 ghost use Rattle.statement.specs.Rows.{told_row};
 ghost use Rattle.table.specs.Table.{rows_fit, row_numbers, rows_laid, narrow_row};
-ghost use Rattle.rows_kept.specs.KeptRows.{little_four, row_bytes, little_at, kept_row_at, first_rows, fine_row, fine_all, told_kept_count, bytes_after, kept_after, read_of, read_after, keep_table};
+ghost use Rattle.rows_kept.specs.KeptRows.{little_four, row_bytes, little_at, kept_row_at, first_rows, fine_row, fine_all, bytes_after, kept_after, read_of, read_after, keep_table};
 
 use error::Fault;
 use statement::{Range, RecordSpan};
-
-// How many rows were written or read; or why none were.
-#[derive(Clone, Copy)]
-pub enum KeptCount {
-    Rows(usize),
-    Refused(Fault),
-}
 
 // Whether the spans of a row lie in a file of this length and run forwards, and its mark is 0 or 1.
 fn fine(len: usize, w: RecordSpan) -> bool
@@ -35,21 +29,12 @@ fn fine(len: usize, w: RecordSpan) -> bool
 fn fine_table(len: usize, rows: &[u32], n: usize) -> bool
     ensures { result ≡ fine_all len (row_numbers rows.now) n }
 {
-    let mut k: usize = 0;
-    while k < n {
+    for k in 0..n {
         if !fine(len, table::read_row(rows, k)) {
             return false;
         }
-        k += 1;
     }
     true
-}
-
-// A byte as a number of 32 bits.
-fn wide(b: u8) -> u32
-    ensures { (result ≡ b) × (result < 256) }
-{
-    b as u32
 }
 
 // The number in the four bytes from this place on.
@@ -57,19 +42,7 @@ fn number_at(bytes: &[u8], at: usize) -> u32
     requires { at + 4 ≤ length bytes.now }
     ensures { result ≡ little_at bytes.now at }
 {
-    let a = wide(bytes[at]);
-    let b = wide(bytes[at + 1]);
-    let c = wide(bytes[at + 2]);
-    let d = wide(bytes[at + 3]);
-    a + b * 256 + c * 65536 + d * 16777216
-}
-
-// The same as a place, which then has 32 bits too.
-fn place_at(bytes: &[u8], at: usize) -> usize
-    requires { at + 4 ≤ length bytes.now }
-    ensures { (result ≡ little_at bytes.now at) × (result ≤ 4294967295) }
-{
-    number_at(bytes, at) as usize
+    u32::from_le_bytes([bytes[at], bytes[at + 1], bytes[at + 2], bytes[at + 3]])
 }
 
 // Row k of the bytes. The table stores it as it is: its numbers have 32 bits.
@@ -80,12 +53,12 @@ fn row_at(bytes: &[u8], k: usize) -> RecordSpan
 {
     let at = k * 24;
     let keyword = Range {
-        start: place_at(bytes, at + 4),
-        end: place_at(bytes, at + 8),
+        start: number_at(bytes, at + 4) as usize,
+        end: number_at(bytes, at + 8) as usize,
     };
     let args = Range {
-        start: place_at(bytes, at + 12),
-        end: place_at(bytes, at + 16),
+        start: number_at(bytes, at + 12) as usize,
+        end: number_at(bytes, at + 16) as usize,
     };
     RecordSpan {
         id: number_at(bytes, at),
@@ -100,12 +73,10 @@ fn fine_bytes(len: usize, bytes: &[u8], n: usize) -> bool
     requires { n * 24 ≤ length bytes.now }
     ensures { result ≡ fine_all len (kept_row_at bytes.now) n }
 {
-    let mut k: usize = 0;
-    while k < n {
+    for k in 0..n {
         if !fine(len, row_at(bytes, k)) {
             return false;
         }
-        k += 1;
     }
     true
 }
@@ -115,10 +86,8 @@ fn put_number(out: &mut [u8], at: usize, x: usize)
     requires { at + 4 ≤ length out.old }
     ensures { out.new ≡ sets out.old at (little_four x) }
 {
-    out[at] = (x % 256) as u8;
-    out[at + 1] = (x / 256 % 256) as u8;
-    out[at + 2] = (x / 65536 % 256) as u8;
-    out[at + 3] = (x / 16777216 % 256) as u8;
+    let low = (x % 4294967296) as u32;
+    out[at..at + 4].copy_from_slice(&low.to_le_bytes());
 }
 
 // Stores a row's six numbers as row k of the bytes.
@@ -127,12 +96,12 @@ fn put_bytes(out: &mut [u8], k: usize, w: RecordSpan)
     ensures { out.new ≡ sets out.old (k * 24) (row_bytes (told_row w)) }
 {
     let at = k * 24;
-    put_number(out, at, common::wide(w.id));
+    put_number(out, at, w.id as usize);
     put_number(out, at + 4, w.keyword.start);
     put_number(out, at + 8, w.keyword.end);
     put_number(out, at + 12, w.args.start);
     put_number(out, at + 16, w.args.end);
-    put_number(out, at + 20, common::wide(w.complex));
+    put_number(out, at + 20, w.complex as usize);
 }
 
 // Writes the first n rows of a table.
@@ -140,10 +109,8 @@ fn put_rows(rows: &[u32], n: usize, out: &mut [u8])
     requires { n * 24 ≤ length out.old }
     ensures { out.new ≡ bytes_after (first_rows (row_numbers rows.now) n) out.old }
 {
-    let mut k: usize = 0;
-    while k < n {
+    for k in 0..n {
         put_bytes(out, k, table::read_row(rows, k));
-        k += 1;
     }
 }
 
@@ -152,46 +119,44 @@ fn get_rows(bytes: &[u8], n: usize, rows: &mut [u32])
     requires { (n ≤ rows_fit (length rows.old)) × (n * 24 ≤ length bytes.now) }
     ensures { rows.new ≡ rows_laid (first_rows (kept_row_at bytes.now) n) rows.old }
 {
-    let mut k: usize = 0;
-    while k < n {
+    for k in 0..n {
         table::put_row(rows, k, row_at(bytes, k));
-        k += 1;
     }
 }
 
 // Writes the first `count` rows of a table, for a file of this length. 9 where a span lies outside the file or runs backwards, or a
 // mark is neither 0 nor 1; then 16 where the bytes do not suffice.
-pub fn keep_rows(len: usize, rows: &[u32], count: usize, out: &mut [u8]) -> KeptCount
-    ensures result_value { told_kept_count result ≡ keep_table len rows.now count (length out.old) }
+pub fn keep_rows(len: usize, rows: &[u32], count: usize, out: &mut [u8]) -> Result<usize, Fault>
+    ensures result_value { told_result result ≡ keep_table len rows.now count (length out.old) }
     ensures out_after { out.new ≡ kept_after (row_numbers rows.now) (keep_table len rows.now count (length out.old)) out.old }
 {
     let n = table::table_rows(rows.len(), count);
     if !fine_table(len, rows, n) {
-        return KeptCount::Refused(Fault::OutOfFile);
+        return Err(Fault::OutOfFile);
     }
     if out.len() < n * 24 {
-        return KeptCount::Refused(Fault::TooShort(0));
+        return Err(Fault::TooShort(0));
     }
     put_rows(rows, n, out);
-    KeptCount::Rows(n)
+    Ok(n)
 }
 
 // Reads rows that were kept for a file of this length. 9 as in writing, and where bytes are left over; then 16 where the rows do
 // not suffice.
-pub fn read_rows(len: usize, bytes: &[u8], rows: &mut [u32]) -> KeptCount
-    ensures result_value { told_kept_count result ≡ read_of len bytes.now (rows_fit (length rows.old)) }
+pub fn read_rows(len: usize, bytes: &[u8], rows: &mut [u32]) -> Result<usize, Fault>
+    ensures result_value { told_result result ≡ read_of len bytes.now (rows_fit (length rows.old)) }
     ensures rows_after { rows.new ≡ read_after bytes.now (read_of len bytes.now (rows_fit (length rows.old))) rows.old }
 {
     if bytes.len() % 24 != 0 {
-        return KeptCount::Refused(Fault::OutOfFile);
+        return Err(Fault::OutOfFile);
     }
     let n = bytes.len() / 24;
     if !fine_bytes(len, bytes, n) {
-        return KeptCount::Refused(Fault::OutOfFile);
+        return Err(Fault::OutOfFile);
     }
     if table::rows_fit(rows.len()) < n {
-        return KeptCount::Refused(Fault::TooShort(0));
+        return Err(Fault::TooShort(0));
     }
     get_rows(bytes, n, rows);
-    KeptCount::Rows(n)
+    Ok(n)
 }

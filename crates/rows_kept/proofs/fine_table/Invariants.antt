@@ -1,6 +1,6 @@
 use mathlib.Core.Path.{◌≡◌}
 use mathlib.Core.Bool.{true}
-use Prim.Native.Nat.{◌-◌, ◌≤◌}
+use Prim.Native.Nat.{◌≤◌}
 use Rattle.table.specs.Table.{row_numbers}
 use Rattle.rows_kept.specs.KeptRows.{fine_all}
 use Rattle.rows_kept.proofs.fine_table.Given as goal
@@ -8,5 +8,3 @@ use Rattle.rows_kept.proofs.fine_table.Given as goal
 abbrev pub invariant-loop-k : goal.invariant-loop-k
 invariant-loop-k l = (l.k ≤ l.n) × (fine_all l.len (row_numbers l.rows) l.k ≡ true)
 
-abbrev pub decreases-loop-k : goal.decreases-loop-k
-decreases-loop-k l = l.n - l.k

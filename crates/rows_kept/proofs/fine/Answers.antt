@@ -1,1 +1,0 @@
--- `fine` has a file so that a wrong test is refused at its own answer. Assumes nothing.

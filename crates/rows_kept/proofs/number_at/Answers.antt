@@ -1,1 +1,0 @@
--- `number_at` has a file so that bytes in another order are refused at its own answer, as a sum that is false. Assumes nothing.
