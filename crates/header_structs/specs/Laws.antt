@@ -1,10 +1,10 @@
 -- Laws for the code: each way out of the search, by what was found so far; and that a search over the number columns of the same records
 -- finds the same.
 -- Assumes nothing.
-use Rattle.std.specs.Prelude.{ℕ, zero, suc, ◌+◌, ◌-◌, ◌≤◌, ◌<◌, ◌≡◌, refl, Bool, true, false, List, [], ◌∷◌, map, length}
+use Rattle.std.specs.Prelude.{ℕ, zero, suc, ◌+◌, ◌-◌, ◌≤◌, ◌<◌, ◌≡◌, refl, Bool, true, false, List, [], ◌∷◌, map, length, Option, Some, None}
 use Rattle.std.proofs.Common.{arith, sym, ◌∙◌, ap}
-use Rattle.std.proofs.Math.Option.{Option, none, some}
 use Rattle.std.proofs.Math.ListN.{get_elem?}
+use Rattle.std.proofs.Math.Option as maybe
 use Rattle.std.proofs.lemmas.List.{length-map}
 use Rattle.statement.specs.declared.HeaderSpan.{HeaderSpan}
 use Rattle.statement.specs.Rows.{header_row_of}
@@ -30,7 +30,7 @@ module _ (s name : List ℕ) (hs : List HeaderSpan) where
   begins = let z : length hs - 0 ≡ length hs = omega arith in ap (λ (m : ℕ). first_from (is_header s (head_at hs) name) m 0) z
 
   -- where record i has the keyword sought, it is the first that has
-  pub header_stops : (i : ℕ) → i < length hs → NoneBefore i → HasKeyword i ≡ true → some i ≡ header_first s (head_at hs) (length hs) name
+  pub header_stops : (i : ℕ) → i < length hs → NoneBefore i → HasKeyword i ≡ true → Some i ≡ header_first s (head_at hs) (length hs) name
   header_stops i l e t = sym (first_stops (is_header s (head_at hs) name) (length hs) i l t) ∙ e
 
   -- where record i has not the keyword sought, the first from the next on is sought
@@ -38,7 +38,7 @@ module _ (s name : List ℕ) (hs : List HeaderSpan) where
   goes i l e f = sym (first_goes (is_header s (head_at hs) name) (length hs) i l f) ∙ e
 
   -- where no record is left, none has the keyword sought
-  pub no_header_left : (i : ℕ) → length hs ≤ i → NoneBefore i → none ≡ header_first s (head_at hs) (length hs) name
+  pub no_header_left : (i : ℕ) → length hs ≤ i → NoneBefore i → None ≡ header_first s (head_at hs) (length hs) name
   no_header_left i l e = sym (first_ends (is_header s (head_at hs) name) (length hs) i l) ∙ e
 
 -- tests that agree on the rows in question find the same first row
@@ -46,11 +46,11 @@ first_same : (p q : ℕ → Bool) (n i : ℕ) → ((j : ℕ) → j < i + n → p
 unfolding first_from
 first_same p q zero i h = refl
 first_same p q (suc n) i h =
-    ap (λ (t : Bool). pick t (some i) (first_from p n (suc i))) (h i (omega arith))
-    ∙ ap (λ (o : Option ℕ). pick (q i) (some i) o) (first_same p q n (suc i) (λ j l. h j (omega arith)))
+    ap (λ (t : Bool). pick t (Some i) (first_from p n (suc i))) (h i (omega arith))
+    ∙ ap (λ (o : Option ℕ). pick (q i) (Some i) o) (first_same p q n (suc i) (λ j l. h j (omega arith)))
 
 -- row i of the rows of records is the row of record i
-elem_row : (hs : List HeaderSpan) (i : ℕ) → i < length hs → get_elem? (map header_row_of hs) i ≡ some (head_at hs i)
+elem_row : (hs : List HeaderSpan) (i : ℕ) → i < length hs → get_elem? (map header_row_of hs) i ≡ maybe.some (head_at hs i)
 elem_row [] i l = absurd (omega arith)
 elem_row (w ∷ hs) zero l = refl
 elem_row (w ∷ hs) (suc i) l = elem_row hs i (omega arith)
@@ -64,7 +64,7 @@ module _ (hs : List HeaderSpan) where
   pub column_is : (i : ℕ) → i < length hs → header_numbers columns i ≡ head_at hs i
   column_is i l =
       let n : length (map header_row_of hs) ≡ length hs = length-map hs header_row_of in
-      let e : some (header_numbers columns i) ≡ some (head_at hs i) = sym (header_is (map header_row_of hs) [] i (omega (arith, n))) ∙ elem_row hs i l in cc
+      let e : maybe.some (header_numbers columns i) ≡ maybe.some (head_at hs i) = sym (header_is (map header_row_of hs) [] i (omega (arith, n))) ∙ elem_row hs i l in cc
 
   -- "the same search over number columns": it finds the same record
   pub columns_same : (s name : List ℕ) → header_found s columns (length hs) name ≡ header_first s (head_at hs) (length hs) name

@@ -5,32 +5,20 @@
 #![tactic(auto)]
 
 ghost use Rattle.std.specs.Prelude.{◌≡◌, ◌<◌, length};
-ghost use Rattle.lookup.specs.Lookup.{told_row_or_none};
 ghost use Rattle.headers.specs.Header.{header_first};
-ghost use Rattle.header_structs.specs.Heads.{span_at, head_at};
+ghost use Rattle.header_structs.specs.Heads.{head_at};
 
-use lookup::RowOrNone;
 use statement::HeaderSpan;
 
-// One of the records.
-fn row_at(heads: &[HeaderSpan], i: usize) -> HeaderSpan
-    requires { i < length heads.now }
-    ensures { result ≡ span_at heads.now i }
-{
-    heads[i]
-}
-
 // The first header record with this keyword, letters in either case.
-pub fn header_row(file: &[u8], heads: &[HeaderSpan], name: &[u8]) -> RowOrNone
-    ensures { told_row_or_none result ≡ header_first file.now (head_at heads.now) (length heads.now) name.now }
+pub fn header_row(file: &[u8], heads: &[HeaderSpan], name: &[u8]) -> Option<usize>
+    ensures { result ≡ header_first file.now (head_at heads.now) (length heads.now) name.now }
 {
-    let mut i = 0;
-    while i < heads.len() {
-        let row = row_at(heads, i);
-        if headers::span_named(file, row, name) {
-            return RowOrNone::At(i);
+    // Kept: `iter().position(..)`, of which the check does not find what it answers, was tried.
+    for (i, head) in heads.iter().enumerate() {
+        if headers::span_named(file, *head, name) {
+            return Some(i);
         }
-        i += 1;
     }
-    RowOrNone::Nothing
+    None
 }

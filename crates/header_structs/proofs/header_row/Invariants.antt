@@ -1,9 +1,5 @@
-use Rattle.std.specs.Prelude.{◌-◌, length}
 use Rattle.header_structs.specs.Laws.{NoneBefore}
 use Rattle.header_structs.proofs.header_row.Given as goal
 
 abbrev pub invariant-loop-i : goal.invariant-loop-i
 invariant-loop-i l = NoneBefore l.file l.name l.heads l.i
-
-abbrev pub decreases-loop-i : goal.decreases-loop-i
-decreases-loop-i l = length l.heads - l.i
