@@ -5,12 +5,13 @@
 -- part's `)`, which is asked for here, is always there.
 -- Assumes nothing.
 -- Definitions to be believed: no law, and nothing computed that no theorem ties (docs/BELIEVE.md).
-use Rattle.std.specs.Prelude.{ℕ, ◌≡◌, List, ◌∷◌, ◌++◌, length}
+use Rattle.std.specs.Prelude.{ℕ, ◌≡◌, List, ◌∷◌, ◌++◌, length, Ok}
 use Rattle.std.proofs.Math.Seq.{slice}
 use Rattle.lex.specs.Grammar.{RecordRuns, Closes}
 use Rattle.record.specs.Form.{Free}
 use Rattle.record.specs.Head.{data_head, header_head}
 use Rattle.record.specs.declared.Head.TheVariants.{Complex, Simple}
+use Rattle.record.specs.declared.Named.{Named}
 use Rattle.statement.specs.Rows.{Row, HeaderRow, reading_ends, section_now, header_statement, data_statement}
 use Rattle.statement.specs.Statement.{statement}
 use Rattle.statement.specs.declared.Section.{Section}
@@ -43,12 +44,12 @@ pub data ClosedParts : List ℕ → Type 0 where
 
 -- "each [..] data record's `(` [..], and each complex record's parts": a data record's text, by its head, which says where the `(` is
 pub data ClosedData : List ℕ → Type 0 where
-  simple : {b : List ℕ} {i a z o : ℕ} → data_head b ≡ Simple i a z o → ClosedAt b o → ClosedData b
-  complex : {b : List ℕ} {i o : ℕ} → data_head b ≡ Complex i o → (c : ClosedAt b o) → ClosedParts c.args → ClosedData b
+  simple : {b : List ℕ} {i a z o : ℕ} → data_head b ≡ Ok (Simple i a z o) → ClosedAt b o → ClosedData b
+  complex : {b : List ℕ} {i o : ℕ} → data_head b ≡ Ok (Complex i o) → (c : ClosedAt b o) → ClosedParts c.args → ClosedData b
 
 -- "each header [..] record's `(`": a header record's text
 pub data ClosedHeader : List ℕ → Type 0 where
-  named : {b : List ℕ} {i a z o : ℕ} → header_head b ≡ Simple i a z o → ClosedAt b o → ClosedHeader b
+  named : {b : List ℕ} {n : Named} → header_head b ≡ Ok n → ClosedAt b n.opening → ClosedHeader b
 
 -- "each header and data record": those that the file s is read to have, from the rest xs on in a section, up to the reading's end;
 -- b is the record's text and r what follows its `;`. A file that is refused is none of these: demand 3 speaks of accepted files

@@ -1,6 +1,6 @@
 -- What a closed record says does not depend on what stands around it: neither on what precedes it in the file nor on what follows
 -- its own text. Assumes nothing.
-use Rattle.std.specs.Prelude.{ℕ, ◌+◌, ◌-◌, ◌≤◌, ◌≡◌, refl, List, [], ◌∷◌, ◌++◌, length, take, drop}
+use Rattle.std.specs.Prelude.{ℕ, ◌+◌, ◌-◌, ◌≤◌, ◌≡◌, refl, List, [], ◌∷◌, ◌++◌, length, take, drop, Err}
 use Rattle.std.proofs.Common.{sym, ◌∙◌, ap, append_assoc, append-nil, arith, ne_eqb, length-append, length-drop, drop_at}
 use Rattle.std.proofs.Math.Option.{some}
 use Rattle.std.proofs.Math.Decide.{ℕ_discrete}
@@ -17,7 +17,7 @@ use Rattle.lex.specs.Right.{closing_only}
 use Rattle.lex.specs.Inside.{closing_inside, closes_own, closes_any}
 use Rattle.record.specs.Head.{data_head}
 use Rattle.record.specs.Within.{data_within, header_within}
-use Rattle.record.specs.declared.Head.TheVariants.{Bad}
+use Rattle.error.specs.declared.Reason.TheVariants.{NoHash}
 use Rattle.statement.specs.Rows.{Row, row, HeaderRow, header_row, bound, mapped}
 use Rattle.statement.specs.Row.{closing_sought, argued_to, record_of, header_of}
 use Rattle.statement.specs.FormRight.{sought_at}
@@ -140,25 +140,25 @@ alone_is {b} c =
 
 -- the row of a closed header record that begins at the place n of the file: it depends on the record's text alone
 abbrev pub header_row_from : {b : List ℕ} → ℕ → ClosedHeader b → HeaderRow
-header_row_from n (ClosedHeader.named {i} {a} {z} {o} e c) = header_row (n + a) (n + z) (n + (o + 1)) (n + (o + 1 + length c.args))
+header_row_from p (ClosedHeader.named {n} e c) = header_row (p + n.start) (p + n.end) (p + (n.opening + 1)) (p + (n.opening + 1 + length c.args))
 
 -- what a closed header record says, from its text alone
 abbrev pub header_content_of : {b : List ℕ} → ClosedHeader b → HeaderContent
-header_content_of {b} (ClosedHeader.named {i} {a} {z} e c) = record { keyword = slice a z b; args = c.args }
+header_content_of {b} (ClosedHeader.named {n} e c) = record { keyword = slice n.start n.end b; args = c.args }
 
 -- a closed header record has the row `header_row_from` wherever it stands: q precedes it in the file, and y follows its text
 pub closed_header_row : {b : List ℕ} (c : ClosedHeader b) (q y : List ℕ) → header_of (q ++ (b ++ y)) (b ++ y) b ≡ good (header_row_from (length q) c)
 unfolding header_of
-closed_header_row {b} (ClosedHeader.named {i} {a} {z} {o} e c) q y =
-    let w : (a ≤ length b) × (z ≤ length b) × (o ≤ length b) = rw e at (header_within b) in
-    let h : o + 1 ≤ length b = omega (arith, args_within c) in
-    rw e (argued_local c q y _ ∙ rw (place_after q b y a w.0, place_after q b y z w.1, place_after q b y (o + 1) h) refl)
+closed_header_row {b} (ClosedHeader.named {n} e c) q y =
+    let w : (n.start ≤ length b) × (n.end ≤ length b) × (n.opening ≤ length b) = rw e at (header_within b) in
+    let h : n.opening + 1 ≤ length b = omega (arith, args_within c) in
+    rw e (argued_local c q y _ ∙ rw (place_after q b y n.start w.0, place_after q b y n.end w.1, place_after q b y (n.opening + 1) h) refl)
 
 -- the row of a closed header record says the same wherever the record stands: q precedes it in the file, and y follows its text
 pub header_content_lem : {b : List ℕ} (c : ClosedHeader b) (q y : List ℕ) → header_content (q ++ (b ++ y)) (header_row_from (length q) c) ≡ header_content_of c
-header_content_lem {b} (ClosedHeader.named {i} {a} {z} {o} e c) q y =
-    let w : (a ≤ length b) × (z ≤ length b) × (o ≤ length b) = rw e at (header_within b) in
-    rw (slice_after q b y a z w.1, slice_after q b y (o + 1) (o + 1 + length c.args) (args_within c), args_slice c) refl
+header_content_lem {b} (ClosedHeader.named {n} e c) q y =
+    let w : (n.start ≤ length b) × (n.end ≤ length b) × (n.opening ≤ length b) = rw e at (header_within b) in
+    rw (slice_after q b y n.start n.end w.1, slice_after q b y (n.opening + 1) (n.opening + 1 + length c.args) (args_within c), args_slice c) refl
 
 -- what a closed header record says does not depend on what stands around it
 pub header_local : {b : List ℕ} → ClosedHeader b
@@ -167,7 +167,7 @@ pub header_local : {b : List ℕ} → ClosedHeader b
 header_local c = (header_content_of c, λ p r. (header_row_from (length p) c, closed_header_row c p (59 ∷ r), header_content_lem c p (59 ∷ r)))
 
 -- a text whose head as a data record is not reason 2 begins with `#`
-hash_first : (b : List ℕ) → (data_head b ≡ Bad 2 → ⊥) → Begins 35 b
+hash_first : (b : List ℕ) → (data_head b ≡ Err NoHash → ⊥) → Begins 35 b
 unfolding data_head
 hash_first [] h = absurd (h refl)
 hash_first (c ∷ r) h = go (ℕ_discrete c 35)

@@ -5,14 +5,16 @@
 -- FormRight.antt shows that Row.antt and Statement.antt compute just this, and that there is no other answer.
 -- Assumes nothing.
 -- Definitions to be believed: no law, and nothing computed that no theorem ties (docs/BELIEVE.md).
-use Rattle.std.specs.Prelude.{ℕ, ◌≡◌, List, [], ◌∷◌, ◌++◌, length}
+use Rattle.std.specs.Prelude.{ℕ, ◌≡◌, List, [], ◌∷◌, ◌++◌, length, Ok, Err}
 use Rattle.std.proofs.Math.Option.{Option, none, some}
-use Rattle.error.specs.Refusal.{Refusal, refusal, Told, good, bad}
+use Rattle.error.specs.Refusal.{Refusal, refusal, Told, good, bad, told_reason}
+use Rattle.error.specs.declared.Reason.{Reason}
 use Rattle.lex.specs.Byte.{place}
 use Rattle.lex.specs.Grammar.{Led, Trivia, RecordRuns, RecordEnds, Closes, Deep, OpenText, OpenRemark}
 use Rattle.record.specs.Form.{WordForm, HeadForm, HeaderForm}
 use Rattle.record.specs.declared.Word.TheVariants.{Header, Data, EndSection, EndFile, Other}
-use Rattle.record.specs.declared.Head.TheVariants.{Bad, Complex, Simple}
+use Rattle.record.specs.declared.Head.TheVariants.{Complex, Simple}
+use Rattle.record.specs.declared.Named.{Named}
 use Rattle.statement.specs.Rows.{Row, row, HeaderRow, header_row, Stmt, reading_ends, statement_refused, section_now, header_statement, data_statement, bound}
 use Rattle.statement.specs.declared.Section.{Section}
 use Rattle.statement.specs.declared.Section.TheVariants.{Outside, InHeader, InData}
@@ -46,30 +48,30 @@ Argued s t a = ArguedTo none s t a
 -- of the file s that starts with ys and has this text, or its refusal
 pub data DataForm (s ys body : List ℕ) : Told Row → Type 0 where
   -- "7 bad record, with reason, its start"
-  bad_record_form : {why : ℕ} → HeadForm body (Bad why) → DataForm s ys body (bad (refusal 7 why (place s ys)))
+  bad_record_form : {why : Reason} → HeadForm body (Err why) → DataForm s ys body (bad (refusal 7 (told_reason why) (place s ys)))
   -- "then `(` for a complex record": t follows the `(`
-  complex : {i o e : ℕ} {t : List ℕ} → HeadForm body (Complex i o) → After o ys (40 ∷ t) → ArguedTo (bound ys body) s t (good e)
+  complex : {i o e : ℕ} {t : List ℕ} → HeadForm body (Ok (Complex i o)) → After o ys (40 ∷ t) → ArguedTo (bound ys body) s t (good e)
       → DataForm s ys body (good (row i 0 0 (place s t) e 1))
   -- "Faults met on the way are given at once.": a fault in a complex record's arguments
-  complex_refused : {i o : ℕ} {t : List ℕ} {q : Refusal} → HeadForm body (Complex i o) → After o ys (40 ∷ t) → ArguedTo (bound ys body) s t (bad q)
+  complex_refused : {i o : ℕ} {t : List ℕ} {q : Refusal} → HeadForm body (Ok (Complex i o)) → After o ys (40 ∷ t) → ArguedTo (bound ys body) s t (bad q)
       → DataForm s ys body (bad q)
   -- "else a keyword and the first byte `(`": the keyword is what stands between the rests k and l, and t follows the `(`
-  simple : {i a z o e : ℕ} {k l t : List ℕ} → HeadForm body (Simple i a z o) → After a ys k → After z ys l → After o ys (40 ∷ t)
+  simple : {i a z o e : ℕ} {k l t : List ℕ} → HeadForm body (Ok (Simple i a z o)) → After a ys k → After z ys l → After o ys (40 ∷ t)
       → ArguedTo (bound ys body) s t (good e) → DataForm s ys body (good (row i (place s k) (place s l) (place s t) e 0))
   -- "Faults met on the way are given at once.": a fault in a simple record's arguments
-  simple_refused : {i a z o : ℕ} {t : List ℕ} {q : Refusal} → HeadForm body (Simple i a z o) → After o ys (40 ∷ t) → ArguedTo (bound ys body) s t (bad q)
+  simple_refused : {i a z o : ℕ} {t : List ℕ} {q : Refusal} → HeadForm body (Ok (Simple i a z o)) → After o ys (40 ∷ t) → ArguedTo (bound ys body) s t (bad q)
       → DataForm s ys body (bad q)
 
 -- the row of the header record that starts with ys and has this text: "keyword start and end [..], argument start and end"; or its
 -- refusal
 pub data HeaderRecordForm (s ys body : List ℕ) : Told HeaderRow → Type 0 where
   -- "7 bad record, with reason, its start": reason "1 header record without `(`"
-  bad_record_form : {why : ℕ} → HeaderForm body (Bad why) → HeaderRecordForm s ys body (bad (refusal 7 why (place s ys)))
+  bad_record_form : {why : Reason} → HeaderForm body (Err why) → HeaderRecordForm s ys body (bad (refusal 7 (told_reason why) (place s ys)))
   -- a keyword, which stands between the rests k and l, and the first byte `(`, which t follows
-  named : {i a z o e : ℕ} {k l t : List ℕ} → HeaderForm body (Simple i a z o) → After a ys k → After z ys l → After o ys (40 ∷ t)
+  named : {n : Named} {e : ℕ} {k l t : List ℕ} → HeaderForm body (Ok n) → After n.start ys k → After n.end ys l → After n.opening ys (40 ∷ t)
       → ArguedTo (bound ys body) s t (good e) → HeaderRecordForm s ys body (good (header_row (place s k) (place s l) (place s t) e))
   -- "Faults met on the way are given at once.": a fault in a header record's arguments
-  named_refused : {i a z o : ℕ} {t : List ℕ} {q : Refusal} → HeaderForm body (Simple i a z o) → After o ys (40 ∷ t) → ArguedTo (bound ys body) s t (bad q)
+  named_refused : {n : Named} {t : List ℕ} {q : Refusal} → HeaderForm body (Ok n) → After n.opening ys (40 ∷ t) → ArguedTo (bound ys body) s t (bad q)
       → HeaderRecordForm s ys body (bad q)
 
 -- "A record starts at the first non-trivia byte and ends at the first `;` outside strings and comments": after trivia of xs a

@@ -1,6 +1,6 @@
 -- Form.antt's rules and what Row.antt and Statement.antt compute are one: what is computed is so, and nothing else is; and the numbers
 -- of the refusals that a statement can answer. Assumes nothing.
-use Rattle.std.specs.Prelude.{ℕ, ◌+◌, ◌-◌, ◌≤◌, ◌<◌, ◌≡◌, refl, ◌⊎◌, List, [], ◌∷◌, ◌++◌, length, drop}
+use Rattle.std.specs.Prelude.{ℕ, ◌+◌, ◌-◌, ◌≤◌, ◌<◌, ◌≡◌, refl, ◌⊎◌, List, [], ◌∷◌, ◌++◌, length, drop, Result, Ok, Err}
 use Rattle.std.proofs.Common.{sym, ◌∙◌, ap, inl, inr, append_assoc, arith, length-append, take_at, drop_at, drop-drop}
 use Rattle.std.proofs.Math.Option.{Option, none, some}
 use Rattle.common.specs.Compare.{clash}
@@ -20,7 +20,9 @@ use Rattle.record.specs.FormRight.Parts.{sole}
 use Rattle.record.specs.declared.Word.{Word}
 use Rattle.record.specs.declared.Word.TheVariants.{Header, Data, EndSection, EndFile, Other}
 use Rattle.record.specs.declared.Head.{Head}
-use Rattle.record.specs.declared.Head.TheVariants.{Bad, Complex, Simple}
+use Rattle.record.specs.declared.Head.TheVariants.{Complex, Simple}
+use Rattle.record.specs.declared.Named.{Named}
+use Rattle.error.specs.declared.Reason.{Reason}
 use Rattle.statement.specs.Rows.{Row, HeaderRow, Stmt, statement_refused, section_now, header_statement, data_statement, bound, RowKind, header_kind, data_kind, RowOf, rowed}
 use Rattle.statement.specs.Row.{closing_sought, record_of, header_of}
 use Rattle.statement.specs.Statement.{header_stated, recorded, worded, ended, begun, statement}
@@ -138,15 +140,24 @@ headerrecord_only (HeaderRecordForm.named h a z o g) =
     rw (← headerform_only h, after_drop o, after_next o, after_drop a, after_drop z, ← arguedto_only g)
 headerrecord_only (HeaderRecordForm.named_refused h o g) = rw (← headerform_only h, after_drop o, ← arguedto_only g)
 
--- the places of a head, as rests of the file from the record's start
-abbrev Placed : Option (List ℕ) → List ℕ → Head → Type 0
-Placed b ys (Bad why) = Unit {0}
-Placed b ys (Complex i o) = (t : List ℕ) × After o ys (40 ∷ t) × Bounded b t
-Placed b ys (Simple i a z o) = (k l t : List ℕ) × After a ys k × After z ys l × After o ys (40 ∷ t) × Bounded b t
+-- a keyword's places and its `(`, as rests of the file from the record's start
+abbrev KeyPlaced : Option (List ℕ) → List ℕ → ℕ → ℕ → ℕ → Type 0
+KeyPlaced b ys a z o = (k l t : List ℕ) × After a ys k × After z ys l × After o ys (40 ∷ t) × Bounded b t
 
-keyed_placed : (n : ℕ) (a e : List ℕ) {v k w r : List ℕ} → Keyword v k w r
-    → Placed (bound ((a ++ v) ++ e) (a ++ v)) ((a ++ v) ++ e) (Simple n (length a) (length (a ++ k)) (length (a ++ (k ++ w))))
-keyed_placed n a e {v} {k} {w} {r} f = (
+-- the places of a head, as rests of the file from the record's start
+abbrev Placed : Option (List ℕ) → List ℕ → Result Head Reason → Type 0
+Placed b ys (Err why) = Unit {0}
+Placed b ys (Ok (Complex i o)) = (t : List ℕ) × After o ys (40 ∷ t) × Bounded b t
+Placed b ys (Ok (Simple i a z o)) = KeyPlaced b ys a z o
+
+-- the places of a header record's head likewise
+abbrev NamedPlaced : Option (List ℕ) → List ℕ → Result Named Reason → Type 0
+NamedPlaced b ys (Err why) = Unit {0}
+NamedPlaced b ys (Ok n) = KeyPlaced b ys n.start n.end n.opening
+
+keyed_placed : (a e : List ℕ) {v k w r : List ℕ} → Keyword v k w r
+    → KeyPlaced (bound ((a ++ v) ++ e) (a ++ v)) ((a ++ v) ++ e) (length a) (length (a ++ k)) (length (a ++ (k ++ w)))
+keyed_placed a e {v} {k} {w} {r} f = (
   v ++ e,
   w ++ (40 ∷ (r ++ e)),
   r ++ e,
@@ -157,7 +168,7 @@ keyed_placed n a e {v} {k} {w} {r} f = (
 )
 
 -- the places of a record's head lie in it, and its arguments' start is a `(`
-head_placed : (e : List ℕ) {body : List ℕ} {h : Head} → HeadForm body h → Placed (bound (body ++ e) body) (body ++ e) h
+head_placed : (e : List ℕ) {body : List ℕ} {h : Result Head Reason} → HeadForm body h → Placed (bound (body ++ e) body) (body ++ e) h
 head_placed e (HeadForm.unmarked b h) = tt
 head_placed e (HeadForm.above ds r a h) = tt
 head_placed e (HeadForm.numberless r h) = tt
@@ -165,35 +176,30 @@ head_placed e (HeadForm.unequal ds w r i d s h) = tt
 head_placed e (HeadForm.valueless l) = tt
 head_placed e (HeadForm.unopened l z f) = tt
 head_placed e (HeadForm.complex {a} {r} l) = (r ++ e, (a, append_assoc a (40 ∷ r) e, refl), bounded_own (a ++ (40 ∷ r)) e r)
-head_placed e (HeadForm.simple {a} {n} l h f) = keyed_placed n a e f
+head_placed e (HeadForm.simple {a} l h f) = keyed_placed a e f
 
-header_placed : (e : List ℕ) {body : List ℕ} {h : Head} → HeaderForm body h → Placed (bound (body ++ e) body) (body ++ e) h
+header_placed : (e : List ℕ) {body : List ℕ} {h : Result Named Reason} → HeaderForm body h → NamedPlaced (bound (body ++ e) body) (body ++ e) h
 header_placed e (HeaderForm.unopened b f) = tt
-header_placed e (HeaderForm.named {a} s f) = keyed_placed 0 a e f
-
--- no header record is complex
-header_simple : {body : List ℕ} {i o : ℕ} → HeaderForm body (Complex i o) → ⊥
-header_simple f = elim f [ ]
+header_placed e (HeaderForm.named {a} s f) = keyed_placed a e f
 
 -- every data record has a row or a refusal by the rules
-dataform_comes : (s ys body : List ℕ) (h : Head) → HeadForm body h → Placed (bound ys body) ys h → (a : Told Row) × DataForm s ys body a
-dataform_comes s ys body (Bad why) f p = (_, DataForm.bad_record_form f)
-dataform_comes s ys body (Complex i o) f (t, p, m) = go (arguedto_comes (bound ys body) s t m)
+dataform_comes : (s ys body : List ℕ) (h : Result Head Reason) → HeadForm body h → Placed (bound ys body) ys h → (a : Told Row) × DataForm s ys body a
+dataform_comes s ys body (Err why) f p = (_, DataForm.bad_record_form f)
+dataform_comes s ys body (Ok (Complex i o)) f (t, p, m) = go (arguedto_comes (bound ys body) s t m)
   where
     go : (a : Told ℕ) × ArguedTo (bound ys body) s t a → (a : Told Row) × DataForm s ys body a
     go (good e, g) = (_, DataForm.complex f p g)
     go (bad q, g) = (_, DataForm.complex_refused f p g)
-dataform_comes s ys body (Simple i a z o) f (k, l, t, pa, pz, p, m) = go (arguedto_comes (bound ys body) s t m)
+dataform_comes s ys body (Ok (Simple i a z o)) f (k, l, t, pa, pz, p, m) = go (arguedto_comes (bound ys body) s t m)
   where
     go : (a : Told ℕ) × ArguedTo (bound ys body) s t a → (a : Told Row) × DataForm s ys body a
     go (good e, g) = (_, DataForm.simple f pa pz p g)
     go (bad q, g) = (_, DataForm.simple_refused f p g)
 
 -- every header record has a row or a refusal by the rules
-headerrecord_comes : (s ys body : List ℕ) (h : Head) → HeaderForm body h → Placed (bound ys body) ys h → (a : Told HeaderRow) × HeaderRecordForm s ys body a
-headerrecord_comes s ys body (Bad why) f p = (_, HeaderRecordForm.bad_record_form f)
-headerrecord_comes s ys body (Complex i o) f p = absurd (header_simple f)
-headerrecord_comes s ys body (Simple i a z o) f (k, l, t, pa, pz, p, m) = go (arguedto_comes (bound ys body) s t m)
+headerrecord_comes : (s ys body : List ℕ) (h : Result Named Reason) → HeaderForm body h → NamedPlaced (bound ys body) ys h → (a : Told HeaderRow) × HeaderRecordForm s ys body a
+headerrecord_comes s ys body (Err why) f p = (_, HeaderRecordForm.bad_record_form f)
+headerrecord_comes s ys body (Ok n) f (k, l, t, pa, pz, p, m) = go (arguedto_comes (bound ys body) s t m)
   where
     go : (a : Told ℕ) × ArguedTo (bound ys body) s t a → (a : Told HeaderRow) × HeaderRecordForm s ys body a
     go (good e, g) = (_, HeaderRecordForm.named f pa pz p g)

@@ -1,30 +1,33 @@
 -- What the definitions say at places of the file: the laws that the code's proofs cite.
 -- Assumes nothing.
-use Rattle.std.specs.Prelude.{ℕ, ◌+◌, ◌-◌, ◌≤◌, ◌<◌, List, length, take, drop}
+use Rattle.std.specs.Prelude.{ℕ, ◌+◌, ◌-◌, ◌≤◌, ◌<◌, List, length, take, drop, Result, Ok, Err}
 use Rattle.std.proofs.Math.Path.{◌≡◌, refl, ap}
 use Rattle.std.proofs.Common.{sym, ◌∙◌, arith, length-drop, length-take}
 use Rattle.std.proofs.Math.Seq.{drop-drop}
 use Rattle.common.specs.Lists.{split, drop_end}
-use Rattle.error.specs.Refusal.{Refusal, refusal, Told, good, bad}
+use Rattle.error.specs.Refusal.{Refusal, refusal, Told, good, bad, told_reason}
+use Rattle.error.specs.declared.Fault.{Fault}
+use Rattle.error.specs.declared.Reason.{Reason}
 use Rattle.lex.specs.Byte.{place}
 use Rattle.lex.specs.Place.{place_drop}
 use Rattle.lex.specs.Search.{trivia, record_end}
 use Rattle.lex.specs.Answer.{Sought, at, fault, placed}
 use Rattle.record.specs.Head.{data_head, header_head}
-use Rattle.record.specs.Within.{HeadWithin, data_within, header_within}
+use Rattle.record.specs.Within.{HeadWithin, NamedWithin, data_within, header_within}
 use Rattle.record.specs.declared.Head.{Head}
-use Rattle.record.specs.declared.Head.TheVariants.{Bad, Complex, Simple}
+use Rattle.record.specs.declared.Head.TheVariants.{Complex, Simple}
+use Rattle.record.specs.declared.Named.{Named}
 use Rattle.common.specs.Walk.{walk}
 use Rattle.lex.specs.At.{trivia_at, end_at}
 use Rattle.record.specs.Text.{before}
 use Rattle.record.specs.Word.{word_of}
 use Rattle.record.specs.declared.Word.{Word}
-use Rattle.statement.specs.Rows.{Row, row, HeaderRow, header_row, reading_ends, statement_refused, section_now, bound}
-use Rattle.statement.specs.Row.{argued_to, record_of, header_of}
+use Rattle.statement.specs.Rows.{Row, HeaderRow, header_row, reading_ends, statement_refused, section_now, bound}
+use Rattle.statement.specs.Row.{argued_to, record_of, header_of, opening_of, row_at}
 use Rattle.statement.specs.Statement.{header_stated, recorded, in_section, worded, ended, begun, after_trivia, statement}
 use Rattle.statement.specs.Answer.{Ahead}
 use Rattle.statement.specs.declared.Said.{Said}
-use Rattle.statement.specs.declared.Said.TheVariants.{Ends, Refuses, Moves, Heads, Records}
+use Rattle.statement.specs.declared.Said.TheVariants.{Ends, Moves, Heads, Records}
 use Rattle.statement.specs.declared.Section.{Section}
 use Rattle.statement.specs.declared.Section.TheVariants.{Outside, InHeader, InData}
 
@@ -38,29 +41,42 @@ module _ (s body : List ℕ) (p : ℕ) where
   past_open o h = omega (arith, place_in_lem s p (o + 1) (omega arith))
 
   -- a data record with a bad head is refused with 7 and the head's reason, at the record's start p
-  pub record_bad : (why : ℕ) → p ≤ length s → data_head body ≡ Bad why → bad (refusal 7 why p) ≡ record_of s (drop p s) body
+  pub record_bad : (why : Reason) → p ≤ length s → data_head body ≡ Err why → bad (refusal 7 (told_reason why) p) ≡ record_of s (drop p s) body
   unfolding record_of
   record_bad why h e = rw (e, place_drop s p h) refl
 
-  -- a complex data record's row, by the search for its `)` from its `(` on
-  pub record_complex : (i o : ℕ) → p + o < length s → data_head body ≡ Complex i o → argued_to (bound (drop p s) body) s (drop (p + o) s) (λ q. row i 0 0 (p + o + 1) q 1) ≡ record_of s (drop p s) body
+  -- a data record's row, by its head and the search for its `)` from its `(` on
+  pub record_made : (g : Head) → HeadWithin (length s - p) (Ok g) → p + opening_of g < length s → data_head body ≡ Ok g
+      → argued_to (bound (drop p s) body) s (drop (p + opening_of g) s) (λ q. row_at p g (p + opening_of g + 1) q) ≡ record_of s (drop p s) body
   unfolding record_of
-  record_complex i o h e = rw (e, ← drop-drop o p s, past_open o h) refl
-
-  -- a simple data record's row, by the search for its `)` from its `(` on
-  pub record_simple : (i a z o : ℕ) → p + a ≤ length s → p + z ≤ length s → p + o < length s → data_head body ≡ Simple i a z o → argued_to (bound (drop p s) body) s (drop (p + o) s) (λ q. row i (p + a) (p + z) (p + o + 1) q 0) ≡ record_of s (drop p s) body
-  unfolding record_of
-  record_simple i a z o ha hz h e = rw (e, ← drop-drop o p s, past_open o h, place_in_lem s p a ha, place_in_lem s p z hz) refl
+  record_made (Complex i o) w h e = rw (e, ← drop-drop o p s, past_open o h) refl
+  record_made (Simple i a z o) w h e = rw (e, ← drop-drop o p s, past_open o h, place_in_lem s p a (omega arith), place_in_lem s p z (omega arith)) refl
 
   -- a header record with a bad head is refused with 7 and the head's reason, at the record's start p
-  pub header_bad : (why : ℕ) → p ≤ length s → header_head body ≡ Bad why → bad (refusal 7 why p) ≡ header_of s (drop p s) body
+  pub header_bad : (why : Reason) → p ≤ length s → header_head body ≡ Err why → bad (refusal 7 (told_reason why) p) ≡ header_of s (drop p s) body
   unfolding header_of
   header_bad why h e = rw (e, place_drop s p h) refl
 
   -- a header record's row, by the search for its `)` from its `(` on
-  pub header_simple : (i a z o : ℕ) → p + a ≤ length s → p + z ≤ length s → p + o < length s → header_head body ≡ Simple i a z o → argued_to (bound (drop p s) body) s (drop (p + o) s) (λ q. header_row (p + a) (p + z) (p + o + 1) q) ≡ header_of s (drop p s) body
+  pub header_made : (n : Named) → p + n.start ≤ length s → p + n.end ≤ length s → p + n.opening < length s → header_head body ≡ Ok n
+      → argued_to (bound (drop p s) body) s (drop (p + n.opening) s) (λ q. header_row (p + n.start) (p + n.end) (p + n.opening + 1) q) ≡ header_of s (drop p s) body
   unfolding header_of
-  header_simple i a z o ha hz h e = rw (e, ← drop-drop o p s, past_open o h, place_in_lem s p a ha, place_in_lem s p z hz) refl
+  header_made n ha hz h e = rw (e, ← drop-drop n.opening p s, past_open n.opening h, place_in_lem s p n.start ha, place_in_lem s p n.end hz) refl
+
+-- the arguments of a row by its head end where they are said to
+pub row_ends : (p : ℕ) (g : Head) (b c : ℕ) → (row_at p g b c).arg_end ≡ c
+row_ends p (Complex i o) b c = refl
+row_ends p (Simple i a z o) b c = refl
+
+-- the places of a head that are at most n are at most any greater number
+pub within_more : (n m : ℕ) (g : Head) → n ≤ m → HeadWithin n (Ok g) → HeadWithin m (Ok g)
+within_more n m (Complex i o) h w = omega arith
+within_more n m (Simple i a z o) h w = (omega arith, omega arith, omega arith)
+
+-- a head's `(` is one of its places
+pub opening_within : (n : ℕ) (g : Head) → HeadWithin n (Ok g) → opening_of g ≤ n
+opening_within n (Complex i o) w = w
+opening_within n (Simple i a z o) w = omega arith
 
 -- a record's text, from its start p up to its `;` at e, has e - p bytes
 pub text_length : (s : List ℕ) (p e : ℕ) → p ≤ e → e ≤ length s → length (take (e - p) (drop p s)) ≡ e - p
@@ -68,24 +84,16 @@ text_length s p e h k = simp (length-take, length-drop) (omega arith)
 
 -- the places of a head lie before the record's `;`
 module _ (s : List ℕ) (p e : ℕ) (h : p ≤ e) (k : e < length s) where
-  within : (g : Head) → HeadWithin (length (take (e - p) (drop p s))) g → HeadWithin (e - p) g
-  within g w = rw (text_length s p e h (omega arith)) at w
+  within : (r : Result Head Reason) → HeadWithin (length (take (e - p) (drop p s))) r → HeadWithin (e - p) r
+  within r w = rw (text_length s p e h (omega arith)) at w
 
-  -- a complex record's `(` does not stand behind its `;`
-  pub complex_fits : (i o : ℕ) → data_head (take (e - p) (drop p s)) ≡ Complex i o → p + o ≤ e
-  complex_fits i o q = let w : o ≤ e - p = within (Complex i o) (rw q at (data_within (take (e - p) (drop p s)))) in omega arith
-
-  -- the places of a simple data record's head do not lie behind its `;`
-  pub simple_fits : (i a z o : ℕ) → data_head (take (e - p) (drop p s)) ≡ Simple i a z o → (p + a ≤ e) × (p + z ≤ e) × (p + o ≤ e)
-  simple_fits i a z o q =
-      let w : (a ≤ e - p) × (z ≤ e - p) × (o ≤ e - p) = within (Simple i a z o) (rw q at (data_within (take (e - p) (drop p s)))) in
-      (omega arith, omega arith, omega arith)
+  -- the places of a data record's head do not lie behind its `;`
+  pub head_fits : (g : Head) → data_head (take (e - p) (drop p s)) ≡ Ok g → HeadWithin (e - p) (Ok g)
+  head_fits g q = within (Ok g) (rw q at (data_within (take (e - p) (drop p s))))
 
   -- the places of a header record's head do not lie behind its `;`
-  pub header_fits : (i a z o : ℕ) → header_head (take (e - p) (drop p s)) ≡ Simple i a z o → (p + a ≤ e) × (p + z ≤ e) × (p + o ≤ e)
-  header_fits i a z o q =
-      let w : (a ≤ e - p) × (z ≤ e - p) × (o ≤ e - p) = within (Simple i a z o) (rw q at (header_within (take (e - p) (drop p s)))) in
-      (omega arith, omega arith, omega arith)
+  pub header_fits : (n : Named) → header_head (take (e - p) (drop p s)) ≡ Ok n → NamedWithin (e - p) (Ok n)
+  header_fits n q = rw (q, text_length s p e h (omega arith)) at (header_within (take (e - p) (drop p s)))
 
 -- the bytes before a record's `;` are its text, by its places
 pub before_at : (s : List ℕ) (p e : ℕ) → p ≤ e → e ≤ length s → before (drop p s) (drop e s) ≡ take (e - p) (drop p s)
@@ -162,9 +170,9 @@ module _ (s : List ℕ) (i : ℕ) (sec : Section) where
           ap statement_refused f ∙ ap (after_trivia s sec) (sym e)
 
 -- an answer of `next_statement` that lies after a later place lies after an earlier one
-pub ahead_from : (i p n : ℕ) (r : Said) → i ≤ p → Ahead p n r → Ahead i n r
-ahead_from i p n Ends h w = tt
-ahead_from i p n (Refuses f) h w = tt
-ahead_from i p n (Moves sec q) h w = (omega arith, omega arith)
-ahead_from i p n (Heads r b q) h w = (omega arith, omega arith, omega arith)
-ahead_from i p n (Records r b q) h w = (omega arith, omega arith, omega arith)
+pub ahead_from : (i p n : ℕ) (r : Result Said Fault) → i ≤ p → Ahead p n r → Ahead i n r
+ahead_from i p n (Err f) h w = tt
+ahead_from i p n (Ok Ends) h w = tt
+ahead_from i p n (Ok (Moves sec q)) h w = (omega arith, omega arith)
+ahead_from i p n (Ok (Heads r b q)) h w = (omega arith, omega arith, omega arith)
+ahead_from i p n (Ok (Records r b q)) h w = (omega arith, omega arith, omega arith)

@@ -1,5 +1,5 @@
 -- What Tidy.antt says at places of the file: the laws that the code's proofs cite. Assumes nothing.
-use Rattle.std.specs.Prelude.{ℕ, ◌+◌, ◌-◌, ◌≤◌, ◌<◌, ◌≡◌, Bool, true, false, ◌&&◌, List, [], ◌∷◌, eqb, length, take, drop, get_or}
+use Rattle.std.specs.Prelude.{ℕ, ◌+◌, ◌-◌, ◌≤◌, ◌<◌, ◌≡◌, Bool, true, false, ◌&&◌, List, [], ◌∷◌, eqb, length, take, drop, get_or, Option, Some, None, Result, Ok, Err}
 use Rattle.std.proofs.Math.Path.{refl}
 use Rattle.std.proofs.Common.{sym, ◌∙◌, ap, arith, drop-drop, eq-eqb, ne_eqb, eqb-true}
 use Rattle.std.proofs.Math.Bool.{not}
@@ -12,12 +12,14 @@ use Rattle.record.specs.Text.{past, before}
 use Rattle.record.specs.Turns.{past_stops, past_goes}
 use Rattle.record.specs.Head.{data_head}
 use Rattle.record.specs.declared.Head.{Head}
-use Rattle.record.specs.declared.Head.TheVariants.{Bad, Complex, Simple}
-use Rattle.statement.specs.Rows.{Row, row, reading_ends, data_statement}
+use Rattle.record.specs.declared.Head.TheVariants.{Complex, Simple}
+use Rattle.error.specs.declared.Reason.{Reason}
+use Rattle.record.specs.Within.{HeadWithin}
+use Rattle.statement.specs.Row.{opening_of, row_at}
+use Rattle.statement.specs.Rows.{Row, reading_ends, data_statement}
 use Rattle.statement.specs.Laws.{place_in_lem, before_at, text_length}
 use Rattle.statement.specs.Tidy.{unended, tidy, tidy_by, tidy_ended, tidy_record, TidyAhead}
-use Rattle.statement.specs.declared.Tidied.{Tidied}
-use Rattle.statement.specs.declared.Tidied.TheVariants.{Untidy, Tidy}
+use Rattle.statement.specs.declared.RecordSpan.{RecordSpan}
 
 -- one byte of a search for a `;`, at the place i
 module _ (s : List ℕ) (i : ℕ) (h : i < length s) where
@@ -30,33 +32,29 @@ module _ (s : List ℕ) (i : ℕ) (h : i < length s) where
   end_goes e = past_goes s i h unended (past unended (drop i s)) (ap not (ne_eqb _ _ e)) refl
 
 -- a head that is not bad
-abbrev pub GoodHead : Head → Type 0
-GoodHead (Bad why) = ⊥
-GoodHead (Complex i o) = Unit {0}
-GoodHead (Simple i a z o) = Unit {0}
+abbrev pub GoodHead : Result Head Reason → Type 0
+GoodHead (Err why) = ⊥
+GoodHead (Ok h) = Unit {0}
 
 -- a text whose head is not bad has bytes in it
-head_some : (b : List ℕ) → (h : Head) → GoodHead h → data_head b ≡ h → 0 < length b
+head_some : (b : List ℕ) → (h : Result Head Reason) → GoodHead h → data_head b ≡ h → 0 < length b
 unfolding data_head
 head_some [] h k e = absurd (rw (← e) at k)
 head_some (c ∷ r) h k e = omega arith
 
 -- a record by its head and its `;`, at places of the file
 module _ (s : List ℕ) (p e : ℕ) (b : List ℕ) (h : p ≤ e) (k : e < length s) where
-  pub tidy_none : (why : ℕ) → data_head b ≡ Bad why → reading_ends ≡ tidy_by s (drop p s) (drop e s) (data_head b)
+  pub tidy_none : (why : Reason) → data_head b ≡ Err why → reading_ends ≡ tidy_by s (drop p s) (drop e s) (data_head b)
   tidy_none why q = rw q refl
 
-  pub tidy_complex : (i o : ℕ) → p + o + 1 ≤ length s → data_head b ≡ Complex i o
-      → data_statement (row i 0 0 (p + o + 1) (e - 1) 1) (drop p s) (drop (e + 1) s) ≡ tidy_by s (drop p s) (drop e s) (data_head b)
-  tidy_complex i o l q =
+  pub tidy_made : (g : Head) → HeadWithin (length s - p) (Ok g) → p + opening_of g + 1 ≤ length s → data_head b ≡ Ok g
+      → data_statement (row_at p g (p + opening_of g + 1) (e - 1)) (drop p s) (drop (e + 1) s) ≡ tidy_by s (drop p s) (drop e s) (data_head b)
+  tidy_made (Complex i o) w l q =
       let n : p + o + 1 ≡ place s (drop (o + 1) (drop p s)) = omega (arith, place_in_lem s p (o + 1) (omega arith)) in
       rw (q, place_drop s e (omega arith), drop-drop 1 e s, ← n) refl
-
-  pub tidy_simple : (i a z o : ℕ) → p + a ≤ length s → p + z ≤ length s → p + o + 1 ≤ length s → data_head b ≡ Simple i a z o
-      → data_statement (row i (p + a) (p + z) (p + o + 1) (e - 1) 0) (drop p s) (drop (e + 1) s) ≡ tidy_by s (drop p s) (drop e s) (data_head b)
-  tidy_simple i a z o ha hz l q =
+  tidy_made (Simple i a z o) w l q =
       let n : p + o + 1 ≡ place s (drop (o + 1) (drop p s)) = omega (arith, place_in_lem s p (o + 1) (omega arith)) in
-      rw (q, place_drop s e (omega arith), drop-drop 1 e s, place_in_lem s p a ha, place_in_lem s p z hz, ← n) refl
+      rw (q, place_drop s e (omega arith), drop-drop 1 e s, place_in_lem s p a (omega arith), place_in_lem s p z (omega arith), ← n) refl
 
 -- `tidy_record` from the place i on: whitespace ends at p, and the first `;` from there on is at e
 module _ (s : List ℕ) (i p e : ℕ) (led : drop p s ≡ past white (drop i s)) (sought : drop e s ≡ past unended (drop p s)) where
@@ -105,11 +103,11 @@ next_by_distance a b h = go (eqb (a + 1) b) refl
     go false e = let f = eqb-false (a + 1) b e in ne_eqb (b - a) 1 (λ z. f (omega arith))
 
 -- a record whose head is not bad begins before its `;`
-pub head_after : (s : List ℕ) (p e : ℕ) (h : Head) → p ≤ e → e < length s → GoodHead h → data_head (take (e - p) (drop p s)) ≡ h → p < e
+pub head_after : (s : List ℕ) (p e : ℕ) (h : Result Head Reason) → p ≤ e → e < length s → GoodHead h → data_head (take (e - p) (drop p s)) ≡ h → p < e
 head_after s p e h l m k q =
     let n : 0 < length (take (e - p) (drop p s)) = head_some (take (e - p) (drop p s)) h k q in omega (arith, text_length s p e l (omega arith))
 
 -- an answer of `tidy_record` that lies after a later place lies after an earlier one
-pub tidy_ahead : (i p n : ℕ) (r : Tidied) → i ≤ p → TidyAhead p n r → TidyAhead i n r
-tidy_ahead i p n Untidy h w = tt
-tidy_ahead i p n (Tidy r q m) h w = (omega arith, omega arith, omega arith)
+pub tidy_ahead : (i p n : ℕ) (r : Option (RecordSpan × ℕ × ℕ)) → i ≤ p → TidyAhead p n r → TidyAhead i n r
+tidy_ahead i p n None h w = tt
+tidy_ahead i p n (Some (r, q, m)) h w = (omega arith, omega arith, omega arith)

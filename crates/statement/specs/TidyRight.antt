@@ -1,5 +1,5 @@
 -- Where a statement in data is tidy, its first `;` gives what it says. Assumes nothing.
-use Rattle.std.specs.Prelude.{ℕ, ◌+◌, ◌-◌, ◌≤◌, ◌≡◌, Bool, false, eqb, take, drop}
+use Rattle.std.specs.Prelude.{ℕ, ◌+◌, ◌-◌, ◌≤◌, ◌≡◌, Bool, false, eqb, take, drop, Result, Ok, Err}
 use Rattle.std.proofs.Math.Path.{refl, ap}
 use Rattle.std.proofs.Common.{sym, ◌∙◌, length-drop, eqb-true}
 use Rattle.std.proofs.Math.Bool.{true}
@@ -24,7 +24,8 @@ use Rattle.record.specs.Head.{data_head}
 use Rattle.record.specs.HashOther.{hash_word}
 use Rattle.record.specs.Word.{word_of}
 use Rattle.record.specs.declared.Head.{Head}
-use Rattle.record.specs.declared.Head.TheVariants.{Bad, Complex, Simple}
+use Rattle.record.specs.declared.Head.TheVariants.{Complex, Simple}
+use Rattle.error.specs.declared.Reason.{Reason}
 use Rattle.record.specs.declared.Word.TheVariants.{Other}
 use Rattle.statement.specs.Rows.{Row, row, data_statement, bound, mapped}
 use Rattle.statement.specs.Row.{closing_sought, record_by, record_of}
@@ -51,21 +52,21 @@ before_seam b e =
     ap (λ (k : ℕ). take k (b ++ e)) n ∙ take-append_seam b e
 
 -- a row whose arguments end just before the `;` is the one that the first `;` gives
-row_tidy : (b : Option (List ℕ)) (s ys e : List ℕ) (h : Head) (w : Row) → good w ≡ record_by b s ys h → w.arg_end + 1 ≡ place s e → tidy_by s ys e h ≡ data_statement w ys (drop 1 e)
-row_tidy b s ys e (Bad why) w q n = clash (cc)
-row_tidy b s ys e (Complex i o) w q n = go (closing_sought b (drop o ys)) q
+row_tidy : (b : Option (List ℕ)) (s ys e : List ℕ) (h : Result Head Reason) (w : Row) → good w ≡ record_by b s ys h → w.arg_end + 1 ≡ place s e → tidy_by s ys e h ≡ data_statement w ys (drop 1 e)
+row_tidy b s ys e (Err why) w q n = clash (cc)
+row_tidy b s ys e (Ok (Complex i o)) w q n = go (closing_sought b (drop o ys)) q
   where
-    go : (x : Sought) → good w ≡ mapped (λ q. row i 0 0 (place s (drop (o + 1) ys)) q 1) (placed s x) → tidy_by s ys e (Complex i o) ≡ data_statement w ys (drop 1 e)
+    go : (x : Sought) → good w ≡ mapped (λ q. row i 0 0 (place s (drop (o + 1) ys)) q 1) (placed s x) → tidy_by s ys e (Ok (Complex i o)) ≡ data_statement w ys (drop 1 e)
     go (fault m z) q = clash (cc)
     go (at c) q =
         let f : w ≡ row i 0 0 (place s (drop (o + 1) ys)) (place s c) 1 = cc in
         let g : w.arg_end ≡ place s c = ap (λ (v : Row). v.arg_end) f in
         let m : place s e - 1 ≡ place s c = omega arith in
         rw m (ap (λ (v : Row). data_statement v ys (drop 1 e)) (sym f))
-row_tidy b s ys e (Simple i a z o) w q n = go (closing_sought b (drop o ys)) q
+row_tidy b s ys e (Ok (Simple i a z o)) w q n = go (closing_sought b (drop o ys)) q
   where
     go : (x : Sought) → good w ≡ mapped (λ q. row i (place s (drop a ys)) (place s (drop z ys)) (place s (drop (o + 1) ys)) q 0) (placed s x)
-        → tidy_by s ys e (Simple i a z o) ≡ data_statement w ys (drop 1 e)
+        → tidy_by s ys e (Ok (Simple i a z o)) ≡ data_statement w ys (drop 1 e)
     go (fault m y) q = clash (cc)
     go (at c) q =
         let f : w ≡ row i (place s (drop a ys)) (place s (drop z ys)) (place s (drop (o + 1) ys)) (place s c) 0 = cc in
@@ -124,10 +125,10 @@ module _ (s ys f e : List ℕ) (closing_sought : past unended ys ≡ e) (shape :
           ended_tidy b r q (rw m at k) ∙ sym m
 
 -- the head of a record that `tidy_by` gives is not bad
-whole_of_lem : (s ys e zs t : List ℕ) (w : Row) (h : Head) → data_statement w zs t ≡ tidy_by s ys e h → GoodHead h
-whole_of_lem s ys e zs t w (Bad why) q = clash (cc)
-whole_of_lem s ys e zs t w (Complex i o) q = tt
-whole_of_lem s ys e zs t w (Simple i a z o) q = tt
+whole_of_lem : (s ys e zs t : List ℕ) (w : Row) (h : Result Head Reason) → data_statement w zs t ≡ tidy_by s ys e h → GoodHead h
+whole_of_lem s ys e zs t w (Err why) q = clash (cc)
+whole_of_lem s ys e zs t w (Ok (Complex i o)) q = tt
+whole_of_lem s ys e zs t w (Ok (Simple i a z o)) q = tt
 
 -- whitespace before a `#` is all the trivia
 hash_led : (xs f ys r : List ℕ) → xs ≡ f ++ ys → All white f → ys ≡ 35 ∷ r → trivia xs ≡ at ys

@@ -1,22 +1,19 @@
 -- A usual data record, read in one walk: what its pieces promise. No contract of a public function cites these: UsualRight.antt shows that
 -- what such a walk answers is what Statement.antt says, and a record that is not usual is read by the searches themselves.
 -- Assumes nothing.
-use Rattle.std.specs.Prelude.{ℕ, ◌+◌, ◌/◌, ◌%◌, ◌^◌, ◌≤◌, ◌<◌, ◌≡◌, Bool, not, ◌||◌, List, ◌∷◌, ◌++◌, eqb, length, drop, get_or}
+use Rattle.std.specs.Prelude.{ℕ, ◌+◌, ◌/◌, ◌%◌, ◌^◌, ◌≤◌, ◌<◌, ◌≡◌, Bool, not, ◌||◌, List, ◌∷◌, ◌++◌, eqb, length, drop, get_or, Option, Some, None, Ok}
 use Rattle.lex.specs.Search.{record_end, closing, semicolon, paren}
 use Rattle.lex.specs.Answer.{at}
 use Rattle.lex.specs.Right.Steps.{plainly}
 use Rattle.record.specs.Text.{past}
 use Rattle.record.specs.Head.{data_head}
 use Rattle.record.specs.declared.Head.{Head}
-use Rattle.record.specs.declared.Head.TheVariants.{Bad, Complex, Simple}
+use Rattle.record.specs.declared.Head.TheVariants.{Complex, Simple}
 use Rattle.statement.specs.Rows.{data_statement, told_row}
 use Rattle.statement.specs.Statement.{begun}
 use Rattle.statement.specs.Tidy.{unended, tidy}
 use Rattle.statement.specs.declared.Section.{Section}
-use Rattle.statement.specs.declared.Step.{Step}
-use Rattle.statement.specs.declared.Step.TheVariants.{Stop, On}
-use Rattle.statement.specs.declared.Usual.{Usual}
-use Rattle.statement.specs.declared.Usual.TheVariants.{Unusual, Whole}
+use Rattle.statement.specs.declared.RecordSpan.{RecordSpan}
 
 -- the bits 39, 40, 41, 47 and 59: a quote, the parentheses, a slash, a `;`
 abbrev pub marks : ℕ
@@ -45,20 +42,21 @@ pub record Way (d e : ℕ) (xs ys : List ℕ) : Type 0 where
   pub closes : (n : ℕ) (w : List ℕ) → plainly paren n w d xs ≡ plainly paren n w e ys
   pub first : past unended xs ≡ past unended ys
 
--- what a step of the walk answers: it stops at the closing `)`, or at the length where something unusual is met; or goes on
-abbrev pub WalkStep : List ℕ → ℕ → ℕ → Step → Type 0
-WalkStep s i d (Stop j) = j < length s → (j ≡ i) × (d ≡ 0) × (get_or s i 0 ≡ 41)
-WalkStep s i d (On j e) = (i < j) × (j ≤ length s) × (e ≤ d + 1) × Way d e (drop i s) (drop j s)
+-- what a step of the walk answers: from where it goes on with how many open parentheses; none where something unusual is met
+abbrev pub WalkStep : List ℕ → ℕ → ℕ → Option (ℕ × ℕ) → Type 0
+WalkStep s i d None = Unit {0}
+WalkStep s i d (Some (j, e)) = (i < j) × (j ≤ length s) × (e ≤ d + 1) × Way d e (drop i s) (drop j s)
 
--- what the walk answers: the place of the closing `)`, or the length
-abbrev pub ClosingFound : List ℕ → ℕ → ℕ → Type 0
-ClosingFound s from r = r < length s → (from ≤ r) × (get_or s r 0 ≡ 41) × Way 0 0 (drop from s) (drop r s)
+-- what the walk answers: the place of the closing `)`; none where something unusual is met first
+abbrev pub ClosingFound : List ℕ → ℕ → Option ℕ → Type 0
+ClosingFound s from None = Unit {0}
+ClosingFound s from (Some r) = (r < length s) × (from ≤ r) × (get_or s r 0 ≡ 41) × Way 0 0 (drop from s) (drop r s)
 
 -- what stands before the `(` of a data record, t, says whatever follows the `(`
-abbrev pub Headed : List ℕ → Head → Type 0
-Headed t (Bad why) = Unit {0}
-Headed t (Complex i o) = (o ≡ length t) × ((r : List ℕ) → Complex i o ≡ data_head (t ++ (40 ∷ r)))
-Headed t (Simple i a z o) = (a ≤ length t) × (z ≤ length t) × (o ≡ length t) × ((r : List ℕ) → Simple i a z o ≡ data_head (t ++ (40 ∷ r)))
+abbrev pub Headed : List ℕ → Option Head → Type 0
+Headed t None = Unit {0}
+Headed t (Some (Complex i o)) = (o ≡ length t) × ((r : List ℕ) → Ok (Complex i o) ≡ data_head (t ++ (40 ∷ r)))
+Headed t (Some (Simple i a z o)) = (a ≤ length t) × (z ≤ length t) × (o ≡ length t) × ((r : List ℕ) → Ok (Simple i a z o) ≡ data_head (t ++ (40 ∷ r)))
 
 -- a record from p on whose first `(` stands at o, the `)` that closes it at c and its `;`, the first one at all, at e
 pub record Walked (s : List ℕ) (p o c e : ℕ) : Type 0 where
@@ -73,7 +71,7 @@ pub record Walked (s : List ℕ) (p o c e : ℕ) : Type 0 where
   pub within : e < length s
 
 -- what `usual_record` answers: a record that is the statement that begins at p, and whether it is tidy; or nothing
-abbrev pub UsualSaid : List ℕ → ℕ → Section → Usual → Type 0
-UsualSaid s p sec Unusual = Unit {0}
-UsualSaid s p sec (Whole span n b) =
+abbrev pub UsualSaid : List ℕ → ℕ → Section → Option (RecordSpan × ℕ × Bool) → Type 0
+UsualSaid s p sec None = Unit {0}
+UsualSaid s p sec (Some (span, n, b)) =
     (data_statement (told_row span) (drop p s) (drop n s) ≡ begun s sec (drop p s)) × (p < n) × (n ≤ length s) × (b ≡ tidy s (data_statement (told_row span) (drop p s) (drop n s)))

@@ -1,5 +1,5 @@
 -- The head of a data record by the bytes before its first `(`, whatever follows that. Assumes nothing.
-use Rattle.std.specs.Prelude.{ℕ, ◌+◌, ◌≤◌, ◌<◌, ◌≡◌, refl, List, ◌∷◌, ◌++◌, length, drop, get_or}
+use Rattle.std.specs.Prelude.{ℕ, ◌+◌, ◌≤◌, ◌<◌, ◌≡◌, refl, List, ◌∷◌, ◌++◌, length, drop, get_or, Ok}
 use Rattle.std.proofs.Common.{sym, ◌∙◌, ap, append_assoc, append-nil, arith, length-drop, length-append}
 use Rattle.std.proofs.lemmas.Bool.{eqb-false, not-true}
 use Rattle.common.specs.Lists.{split, drop_end}
@@ -52,19 +52,19 @@ fronted t id from q a hash num most some within eq hq is eqa =
     }
 
 -- where nothing stands between the `=` and the `(`, the head is a complex record's
-pub head_complex : (t : List ℕ) (id a : ℕ) → Fronted t id a → length t ≤ a → a ≤ length t → (r : List ℕ) → Complex id a ≡ data_head (t ++ (40 ∷ r))
+pub head_complex : (t : List ℕ) (id a : ℕ) → Fronted t id a → length t ≤ a → a ≤ length t → (r : List ℕ) → Ok (Complex id a) ≡ data_head (t ++ (40 ∷ r))
 head_complex t id a f h k r =
     let e : t ≡ f.front = f.shape ∙ ap (λ (l : List ℕ). f.front ++ l) (drop_end t a h) ∙ append-nil f.front in
     let n : a ≡ length f.front = let l : length t ≡ length f.front = ap length e in omega arith in
-    let g : Complex id (length f.front) ≡ data_head (f.front ++ (40 ∷ r)) = headform_only (HeadForm.complex (f.leads (40 ∷ r) (gap_other 40 r refl))) in
-    ap (Complex id) n ∙ g ∙ ap (λ (l : List ℕ). data_head (l ++ (40 ∷ r))) (sym e)
+    let g : Ok (Complex id (length f.front)) ≡ data_head (f.front ++ (40 ∷ r)) = headform_only (HeadForm.complex (f.leads (40 ∷ r) (gap_other 40 r refl))) in
+    ap (λ (m : ℕ). Ok (Complex id m)) n ∙ g ∙ ap (λ (l : List ℕ). data_head (l ++ (40 ∷ r))) (sym e)
 
 -- where a keyword stands between the `=` and the `(`, the head has its places, trimmed at its end
 pub head_simple : (t : List ℕ) (id a z : ℕ) → Free 40 t → Fronted t id a → a < length t → z ≤ length t → drop z t ≡ trail (drop a t)
-    → (r : List ℕ) → Simple id a z (length t) ≡ data_head (t ++ (40 ∷ r))
+    → (r : List ℕ) → Ok (Simple id a z (length t)) ≡ data_head (t ++ (40 ∷ r))
 head_simple t id a z free f h hz e r = go (tail_split (drop a t))
   where
-    go : Tailed (drop a t) → Simple id a z (length t) ≡ data_head (t ++ (40 ∷ r))
+    go : Tailed (drop a t) → Ok (Simple id a z (length t)) ≡ data_head (t ++ (40 ∷ r))
     go (k, w, x, aw, nl) =
         let p : List ℕ = f.front in
         let v : List ℕ = k ++ (w ++ (40 ∷ r)) in
@@ -76,7 +76,7 @@ head_simple t id a z free f h hz e r = go (tail_split (drop a t))
         let c40 : get_or t a 0 ≡ 40 → ⊥ = eqb-false (get_or t a 0) 40 (not-true _ (rw (split t a h) at fv).0) in
         let key : Keyword v k w r = record { shape = refl; first = fk; blank = aw; ended = nl } in
         let nf : NoGapFirst v = rw b at (gap_more (get_or t a 0) (drop (a + 1) t) (40 ∷ r) (rw (split t a h) at f.over)) in
-        let g : Simple id (length p) (length (p ++ k)) (length (p ++ (k ++ w))) ≡ data_head (p ++ v) =
+        let g : Ok (Simple id (length p) (length (p ++ k)) (length (p ++ (k ++ w)))) ≡ data_head (p ++ v) =
         headform_only (HeadForm.simple (f.leads v nf) (λ (l, m). c40 (cc)) key) in
         let whole : p ++ v ≡ t ++ (40 ∷ r) =
         ap (λ (l : List ℕ). p ++ l) (sym y) ∙ sym (append_assoc p (drop a t) (40 ∷ r)) ∙ ap (λ (l : List ℕ). l ++ (40 ∷ r)) (sym f.shape) in

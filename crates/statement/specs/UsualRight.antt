@@ -1,6 +1,6 @@
 -- A usual record is the statement that Statement.antt says: its `;` is the record's end, its `)` the closing one, and its head the one of
 -- the record's text. Assumes nothing.
-use Rattle.std.specs.Prelude.{ℕ, suc, ◌+◌, ◌-◌, ◌≤◌, ◌<◌, ◌≡◌, refl, List, [], ◌∷◌, ◌++◌, length, take, drop, get_or, eqb, not}
+use Rattle.std.specs.Prelude.{ℕ, suc, ◌+◌, ◌-◌, ◌≤◌, ◌<◌, ◌≡◌, refl, List, [], ◌∷◌, ◌++◌, length, take, drop, get_or, eqb, not, Some, Ok}
 use Rattle.std.proofs.Common.{sym, ◌∙◌, ap, arith, length-drop, length-take, length-append, take-append-drop, drop-drop, ne_eqb, eq-eqb}
 use Rattle.std.proofs.Math.ListN.{get_or-append}
 use Rattle.std.proofs.Math.Seq.{take-append-add, take-append_seam}
@@ -23,12 +23,14 @@ use Rattle.record.specs.FormRight.Parts.{all_kind}
 use Rattle.record.specs.Head.{data_head}
 use Rattle.record.specs.HashOther.{hash_word}
 use Rattle.record.specs.Word.{word_of}
+use Rattle.record.specs.Within.{HeadWithin}
+use Rattle.record.specs.declared.Head.{Head}
 use Rattle.record.specs.declared.Head.TheVariants.{Complex, Simple}
 use Rattle.record.specs.declared.Word.TheVariants.{Other}
-use Rattle.statement.specs.Rows.{Row, row, data_statement, mapped}
-use Rattle.statement.specs.Row.{argued, record_of}
+use Rattle.statement.specs.Rows.{Row, data_statement, mapped}
+use Rattle.statement.specs.Row.{argued, record_of, opening_of, row_at}
 use Rattle.statement.specs.Statement.{begun}
-use Rattle.statement.specs.Laws.{text_length, record_complex, record_simple, section_data, worded_at, begun_found}
+use Rattle.statement.specs.Laws.{text_length, within_more, record_made, section_data, worded_at, begun_found}
 use Rattle.statement.specs.Tidy.{tidy}
 use Rattle.statement.specs.TidyLaws.{end_stops}
 use Rattle.statement.specs.Usual.{is_plain_byte, Way, Headed, Walked}
@@ -113,34 +115,32 @@ module _ (s : List ℕ) (p o c e : ℕ) (w : Walked s p o c e) where
       sym (ap (λ (x : Sought). mapped f (placed s x)) w.closed ∙ ap (λ (k : ℕ). good (f k)) (place_drop s c (omega arith)))
 
   -- a usual record is tidy where its `)` stands just before its `;`, whatever else is in its row
-  pub tidy_walked : eqb (c + 1) e ≡ tidy s (data_statement (row 0 0 0 0 c 0) (drop p s) (drop (e + 1) s))
-  tidy_walked = let d = w.within in
-      rw (w.first, place_drop s e (omega arith), place_drop s (e + 1) (omega arith), eq-eqb (e + 1) (e + 1) refl) refl
+  pub tidy_walked : (r : Row) → r.arg_end ≡ c → eqb (c + 1) e ≡ tidy s (data_statement r (drop p s) (drop (e + 1) s))
+  tidy_walked r h = let d = w.within in
+      rw (h, w.first, place_drop s e (omega arith), place_drop s (e + 1) (omega arith), eq-eqb (e + 1) (e + 1) refl) refl
 
-  -- a usual record with a complex record's head is the statement that begins at p
-  pub complex_said : (i k : ℕ) → Headed (take (o - p) (drop p s)) (Complex i k) → data_statement (row i 0 0 (o + 1) c 1) (drop p s) (drop (e + 1) s) ≡ begun s InData (drop p s)
-  complex_said i k (z, h) =
+  -- the places of a usual record's head lie before its `(`, which is the head's
+  pub usual_fits : (g : Head) → Headed (take (o - p) (drop p s)) (Some g) → HeadWithin (o - p) (Ok g) × (p + opening_of g ≡ o)
+  usual_fits g h =
       let a = w.from in let b = w.over in let d = w.upto in let f = w.within in
-      let n : k ≡ o - p = z ∙ length-take (o - p) (drop p s) ∙ omega (arith, length-drop p s) in
-      let m : p + k ≡ o = omega arith in
-      said (row i 0 0 (o + 1) c 1) (argued_is (λ q. row i 0 0 (o + 1) q 1)
-      ∙ (rw m at (record_complex s (take (e - p) (drop p s)) p i k (omega arith) (ap data_head body_is ∙ sym (h _)))))
+      go g (length-take (o - p) (drop p s) ∙ omega (arith, length-drop p s)) h
+    where
+      go : (g : Head) → length (take (o - p) (drop p s)) ≡ o - p → Headed (take (o - p) (drop p s)) (Some g) → HeadWithin (o - p) (Ok g) × (p + opening_of g ≡ o)
+      go (Complex i k) l (z, h) = let a = w.from in (omega arith, omega arith)
+      go (Simple i x y k) l (u, v, z, h) = let a = w.from in ((omega arith, omega arith, omega arith), omega arith)
 
-  -- a usual record with a simple record's head is the statement that begins at p
-  pub simple_said : (i x y k : ℕ) → Headed (take (o - p) (drop p s)) (Simple i x y k) → data_statement (row i (p + x) (p + y) (o + 1) c 0) (drop p s) (drop (e + 1) s) ≡ begun s InData (drop p s)
-  simple_said i x y k (u, v, z, h) =
-      let a = w.from in let b = w.over in let d = w.upto in let f = w.within in
-      let l : length (take (o - p) (drop p s)) ≡ o - p = length-take (o - p) (drop p s) ∙ omega (arith, length-drop p s) in
-      let m : p + k ≡ o = omega arith in
-      said (row i (p + x) (p + y) (o + 1) c 0) (argued_is (λ q. row i (p + x) (p + y) (o + 1) q 0)
-      ∙ (rw m at (record_simple s (take (e - p) (drop p s)) p i x y k (omega arith) (omega arith) (omega arith) (ap data_head body_is ∙ sym (h _)))))
+  -- a usual record's head is that of its text
+  usual_head : (g : Head) → Headed (take (o - p) (drop p s)) (Some g) → data_head (take (e - p) (drop p s)) ≡ Ok g
+  usual_head (Complex i k) (z, h) = ap data_head body_is ∙ sym (h _)
+  usual_head (Simple i x y k) (u, v, z, h) = ap data_head body_is ∙ sym (h _)
 
-  -- the places of a simple record's head lie before its `(`
-  pub head_fits : (i x y k : ℕ) → Headed (take (o - p) (drop p s)) (Simple i x y k) → (p + x ≤ o) × (p + y ≤ o)
-  head_fits i x y k (u, v, z, h) =
+  -- a usual record with this head is the statement that begins at p
+  pub usual_said : (g : Head) → Headed (take (o - p) (drop p s)) (Some g) → data_statement (row_at p g (o + 1) c) (drop p s) (drop (e + 1) s) ≡ begun s InData (drop p s)
+  usual_said g h =
       let a = w.from in let b = w.over in let d = w.upto in let f = w.within in
-      let l : length (take (o - p) (drop p s)) ≡ o - p = length-take (o - p) (drop p s) ∙ omega (arith, length-drop p s) in
-      (omega arith, omega arith)
+      let (l, m) = usual_fits g h in
+      said (row_at p g (o + 1) c) (argued_is (λ q. row_at p g (o + 1) q)
+      ∙ (rw m at (record_made s (take (e - p) (drop p s)) p g (within_more (o - p) (length s - p) g (omega arith) l) (omega arith) (usual_head g h))))
 
 -- whitespace is trivia
 pub blanks : (f r : List ℕ) → All white f → Trivia (f ++ r) r

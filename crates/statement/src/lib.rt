@@ -4,26 +4,28 @@
 // from a place in a section; whether there is a row left for it is for the scan to say.
 #![tactic(auto)]
 
-ghost use Rattle.std.specs.Prelude.{◌≡◌, true, false, ◌+◌, ◌-◌, ◌≤◌, ◌<◌, eqb, length, take, drop, get_or};
+ghost use Rattle.std.specs.Prelude.{◌≡◌, true, false, ◌+◌, ◌-◌, ◌^◌, ◌≤◌, ◌<◌, eqb, length, take, drop, get_or, ℕ, option_map};
 ghost use Rattle.lex.specs.Byte.{white};
 ghost use Rattle.lex.specs.Search.{trivia};
-ghost use Rattle.lex.specs.Answer.{at, placed, told_found_place};
+ghost use Rattle.lex.specs.Answer.{at, placed};
+ghost use Rattle.error.specs.Refusal.{told_result};
 ghost use Rattle.record.specs.Text.{past, Numbered};
 ghost use Rattle.record.specs.Form.{Free};
 ghost use Rattle.record.specs.Head.{data_head};
-ghost use Rattle.statement.specs.Rows.{row, header_row};
-ghost use Rattle.statement.specs.Row.{argued, record_of, header_of};
-ghost use Rattle.statement.specs.Answer.{told_record, told_header_read, told_said, Ahead, told_tidied};
+ghost use Rattle.record.specs.Within.{HeadWithin};
+ghost use Rattle.statement.specs.Rows.{told_row};
+ghost use Rattle.statement.specs.Row.{record_of, header_of, opening_of, row_at};
+ghost use Rattle.statement.specs.Answer.{told_record, told_header_read, told_said, Ahead, said_in, noted_tidy, told_tidied};
 ghost use Rattle.statement.specs.Statement.{in_section, ended, begun, statement};
 ghost use Rattle.statement.specs.Tidy.{unended, tidy, tidy_by, tidy_record, TidyAhead};
 ghost use Rattle.statement.specs.Usual.{is_looked_at, is_plain_byte, stops_string, spoken, WalkStep, ClosingFound, Headed, Walked, UsualSaid};
 
 use error::Fault;
-use lex::{FoundPlace, Quote};
-use record::{Head, Number, Word};
+use lex::Quote;
+use record::{Head, Word};
 
 // Where a statement stands: in the header, in data, or elsewhere, where records are ignored.
-#[derive(Clone, Copy)]
+#[derive(Clone, Copy, PartialEq, Eq)]
 pub enum Section {
     Outside,
     InHeader,
@@ -31,21 +33,21 @@ pub enum Section {
 }
 
 // A part of the file, from start up to end.
-#[derive(Clone, Copy)]
+#[derive(Clone, Copy, PartialEq, Eq)]
 pub struct Range {
     pub start: usize,
     pub end: usize,
 }
 
 // A header record's keyword and arguments.
-#[derive(Clone, Copy)]
+#[derive(Clone, Copy, PartialEq, Eq)]
 pub struct HeaderSpan {
     pub keyword: Range,
     pub args: Range,
 }
 
 // A data record's id, keyword and arguments; complex is 1 for a complex record, whose keyword is 0, 0.
-#[derive(Clone, Copy)]
+#[derive(Clone, Copy, PartialEq, Eq)]
 pub struct RecordSpan {
     pub id: u32,
     pub keyword: Range,
@@ -53,164 +55,122 @@ pub struct RecordSpan {
     pub complex: u32,
 }
 
-#[derive(Clone, Copy)]
-pub enum HeaderRead {
-    HeaderIs(HeaderSpan),
-    NoHeader(Fault),
-}
-
-#[derive(Clone, Copy)]
-pub enum RecordRead {
-    RecordIs(RecordSpan),
-    NoRecord(Fault),
-}
-
-// What a statement says: the reading ends; it is refused; the section after it and the place after it; or a row, with the
-// record's start and the place after the statement.
-#[derive(Clone, Copy)]
+// What a statement says: the reading ends; the section after it and the place after it; or a row, with the record's start and the
+// place after the statement.
+#[derive(Clone, Copy, PartialEq, Eq)]
 pub enum Said {
     Ends,
-    Refuses(Fault),
     Moves(Section, usize),
     Heads(HeaderSpan, usize, usize),
     Records(RecordSpan, usize, usize),
 }
 
 // What a statement says, and whether its first `;` alone would have given that.
-#[derive(Clone, Copy)]
+// Kept: the flag is no part of `said`, of which `next_statement` has one answer (`said_only`).
+#[derive(Clone, Copy, PartialEq, Eq)]
 pub struct Noted {
     pub said: Said,
     pub tidy: bool,
 }
 
-// A data record that was read by its first `;` alone, with its start and the place after it; or none.
-#[derive(Clone, Copy)]
-pub enum Tidied {
-    Untidy,
-    Tidy(RecordSpan, usize, usize),
-}
-
-// A data record that was read in one walk, with the place after it and whether it is tidy; or one that is not usual.
-#[derive(Clone, Copy)]
-enum Usual {
-    Unusual,
-    Whole(RecordSpan, usize, bool),
-}
-
-// What a walk does next: it stops at a place, or goes on from a place with so many open parentheses.
-#[derive(Clone, Copy)]
-enum Step {
-    Stop(usize),
-    On(usize, usize),
-}
-
-// The row of a record whose `(` stands at `opening`: its arguments run up to the `)` that closes it.
-fn record_args(s: &[u8], id: u32, keyword: Range, opening: usize, complex: u32) -> RecordRead
-    requires { opening < length s.now }
-    ensures { told_record result ≡ argued s.now (drop opening s.now) (λ q. row id keyword.start keyword.end (opening + 1) q complex) }
+// The place of the `(` in a data record's head.
+fn opening_of(head: Head) -> usize
+    ensures { result ≡ opening_of head }
 {
-    match lex::matching_paren(s, opening) {
-        FoundPlace::Refused(f) => RecordRead::NoRecord(f),
-        FoundPlace::At(close) => {
-            let args = Range {
-                start: opening + 1,
-                end: close,
-            };
-            RecordRead::RecordIs(RecordSpan {
-                id,
-                keyword,
-                args,
-                complex,
-            })
-        }
+    match head {
+        Head::Complex(_, o) | Head::Simple(_, _, _, o) => o,
     }
 }
 
-fn header_args(s: &[u8], keyword: Range, opening: usize) -> HeaderRead
-    requires { opening < length s.now }
-    ensures { told_header_read result ≡ argued s.now (drop opening s.now) (λ q. header_row keyword.start keyword.end (opening + 1) q) }
+// The row of a data record that starts at `start`, by its head and its arguments.
+fn row_at(start: usize, head: Head, args: Range) -> RecordSpan
+    requires { (n : ℕ) × (start + n < 2 ^ 64) × HeadWithin n (Ok head) }
+    ensures { told_row result ≡ row_at start head args.start args.end }
 {
-    match lex::matching_paren(s, opening) {
-        FoundPlace::Refused(f) => HeaderRead::NoHeader(f),
-        FoundPlace::At(close) => {
-            let args = Range {
-                start: opening + 1,
-                end: close,
-            };
-            HeaderRead::HeaderIs(HeaderSpan { keyword, args })
-        }
+    match head {
+        Head::Complex(id, _) => RecordSpan {
+            id,
+            keyword: Range { start: 0, end: 0 },
+            args,
+            complex: 1,
+        },
+        Head::Simple(id, a, z, _) => RecordSpan {
+            id,
+            keyword: Range {
+                start: start + a,
+                end: start + z,
+            },
+            args,
+            complex: 0,
+        },
     }
 }
 
-// The data record whose text runs from start up to the `;` at end.
-fn scan_data_record(s: &[u8], start: usize, end: usize) -> RecordRead
+// The data record whose text runs from start up to the `;` at end: its arguments run up to the `)` that closes its `(`.
+fn scan_data_record(s: &[u8], start: usize, end: usize) -> Result<RecordSpan, Fault>
     requires { (start ≤ end) × (end < length s.now) }
     ensures { told_record result ≡ record_of s.now (drop start s.now) (take (end - start) (drop start s.now)) }
 {
-    match record::data_head(&s[start..end]) {
-        Head::Bad(why) => RecordRead::NoRecord(Fault::BadRecord(why, start)),
-        Head::Complex(id, o) => {
-            let none = Range { start: 0, end: 0 };
-            record_args(s, id, none, start + o, 1)
-        }
-        Head::Simple(id, a, z, o) => {
-            let keyword = Range {
-                start: start + a,
-                end: start + z,
-            };
-            record_args(s, id, keyword, start + o, 0)
-        }
-    }
+    let head = match record::data_head(&s[start..end]) {
+        Ok(head) => head,
+        Err(why) => return Err(Fault::BadRecord(why, start)),
+    };
+    let opening = start + opening_of(head);
+    let close = lex::matching_paren(s, opening)?;
+    let args = Range {
+        start: opening + 1,
+        end: close,
+    };
+    Ok(row_at(start, head, args))
 }
 
-// The header record whose text runs from start up to the `;` at end. Its head is never complex (`header_simple`).
-fn scan_header_record(s: &[u8], start: usize, end: usize) -> HeaderRead
+// The header record whose text runs from start up to the `;` at end.
+fn scan_header_record(s: &[u8], start: usize, end: usize) -> Result<HeaderSpan, Fault>
     requires { (start ≤ end) × (end < length s.now) }
     ensures { told_header_read result ≡ header_of s.now (drop start s.now) (take (end - start) (drop start s.now)) }
 {
-    match record::header_head(&s[start..end]) {
-        Head::Bad(why) => HeaderRead::NoHeader(Fault::BadRecord(why, start)),
-        Head::Complex(_, _) => HeaderRead::NoHeader(Fault::BadRecord(1, start)),
-        Head::Simple(_, a, z, o) => {
-            let keyword = Range {
-                start: start + a,
-                end: start + z,
-            };
-            header_args(s, keyword, start + o)
-        }
-    }
+    let head = match record::header_head(&s[start..end]) {
+        Ok(head) => head,
+        Err(why) => return Err(Fault::BadRecord(why, start)),
+    };
+    let opening = start + head.opening;
+    let close = lex::matching_paren(s, opening)?;
+    Ok(HeaderSpan {
+        keyword: Range {
+            start: start + head.start,
+            end: start + head.end,
+        },
+        args: Range {
+            start: opening + 1,
+            end: close,
+        },
+    })
 }
 
 // A record that is no section word, from start up to its `;` at end.
-fn in_section(s: &[u8], start: usize, end: usize, section: Section) -> Said
+fn in_section(s: &[u8], start: usize, end: usize, section: Section) -> Result<Said, Fault>
     requires { (start ≤ end) × (end < length s.now) }
     ensures result_value { told_said s.now result ≡ in_section s.now (drop start s.now) (drop end s.now) section }
     ensures ahead { Ahead start (length s.now) result }
 {
-    match section {
+    Ok(match section {
         Section::Outside => Said::Moves(Section::Outside, end + 1),
-        Section::InHeader => match scan_header_record(s, start, end) {
-            HeaderRead::HeaderIs(span) => Said::Heads(span, start, end + 1),
-            HeaderRead::NoHeader(f) => Said::Refuses(f),
-        },
-        Section::InData => match scan_data_record(s, start, end) {
-            RecordRead::RecordIs(span) => Said::Records(span, start, end + 1),
-            RecordRead::NoRecord(f) => Said::Refuses(f),
-        },
-    }
+        Section::InHeader => Said::Heads(scan_header_record(s, start, end)?, start, end + 1),
+        Section::InData => Said::Records(scan_data_record(s, start, end)?, start, end + 1),
+    })
 }
 
 // A whole record, from start up to its `;` at end.
-fn record_said(s: &[u8], start: usize, end: usize, section: Section) -> Said
+fn record_said(s: &[u8], start: usize, end: usize, section: Section) -> Result<Said, Fault>
     requires { (start ≤ end) × (end < length s.now) }
     ensures result_value { told_said s.now result ≡ ended s.now (drop start s.now) section (at (drop end s.now)) }
     ensures ahead { Ahead start (length s.now) result }
 {
     match record::section_word(&s[start..end]) {
-        Word::EndSection => Said::Moves(Section::Outside, end + 1),
-        Word::Header => Said::Moves(Section::InHeader, end + 1),
-        Word::Data => Said::Moves(Section::InData, end + 1),
-        Word::EndFile => Said::Ends,
+        Word::EndSection => Ok(Said::Moves(Section::Outside, end + 1)),
+        Word::Header => Ok(Said::Moves(Section::InHeader, end + 1)),
+        Word::Data => Ok(Said::Moves(Section::InData, end + 1)),
+        Word::EndFile => Ok(Said::Ends),
         Word::Other => in_section(s, start, end, section),
     }
 }
@@ -220,13 +180,7 @@ fn record_said(s: &[u8], start: usize, end: usize, section: Section) -> Said
 fn is_mark(b: u8) -> bool
     ensures { result ≡ is_looked_at b }
 {
-    (576605338082476032u64 >> wide(b % 64)) % 2 == 1
-}
-
-fn wide(b: u8) -> u64
-    ensures { result ≡ b }
-{
-    b as u64
+    (576605338082476032u64 >> u64::from(b % 64)) % 2 == 1
 }
 
 // The first marked place from `from` on, or the length: the last bytes of a file.
@@ -347,52 +301,43 @@ fn text_run(s: &[u8], from: usize) -> usize
     text_bytes(s, far, s.len())
 }
 
-// Past the string whose first quote stands at i, with so many open parentheses. One with a `;` or a doubled quote is not usual.
-fn string_step(s: &[u8], i: usize, depth: usize) -> Step
+// Past the string whose first quote stands at i, where no `;` and no doubled quote is in it, which would not be usual.
+fn string_past(s: &[u8], i: usize) -> Option<usize>
     requires { (i < length s.now) × (get_or s.now i 0 ≡ 39) }
-    ensures { WalkStep s.now i depth result }
+    ensures { (d : ℕ) → WalkStep s.now i d (option_map (λ j. (j, d)) result) }
 {
     let q = text_run(s, i + 1);
-    if s.len() <= q {
-        return Step::Stop(s.len());
-    }
-    if s[q] != b'\'' {
-        return Step::Stop(s.len());
+    if s.len() <= q || s[q] != b'\'' {
+        return None;
     }
     match lex::quote_before(s, q + 1) {
-        Quote::Doubled => Step::Stop(s.len()), // `''`: inside still, which is not usual.
-        Quote::Single => Step::On(q + 1, depth), // `'` and another byte: the end.
-        Quote::Last => Step::Stop(s.len()), // `'` and the file's end: the end, but no `;` follows.
+        Quote::Doubled => None, // `''`: inside still, which is not usual.
+        Quote::Single => Some(q + 1), // `'` and another byte: the end.
+        Quote::Last => None, // `'` and the file's end: the end, but no `;` follows.
     }
 }
 
-// What a walk does at a marked byte with so many open parentheses. A slash or a `;` is not usual; the bytes from 64 on that share their
-// bits with the five are passed over.
-fn mark_step(s: &[u8], i: usize, depth: usize) -> Step
+// From where a walk goes on after a marked byte with so many open parentheses, and with how many. A slash or a `;` is not usual, nor is a
+// `)` where none is open; the bytes from 64 on that share their bits with the five are passed over.
+fn mark_step(s: &[u8], i: usize, depth: usize) -> Option<(usize, usize)>
     requires { (i < length s.now) × (depth ≤ i) }
     ensures { WalkStep s.now i depth result }
 {
-    let c = s[i];
-    if c == b'(' {
-        return Step::On(i + 1, depth + 1);
-    }
-    if c == b')' {
-        if depth == 0 {
-            return Step::Stop(i);
+    match s[i] {
+        b'(' => Some((i + 1, depth + 1)),
+        b')' => Some((i + 1, depth.checked_sub(1)?)),
+        b'\'' => Some((string_past(s, i)?, depth)),
+        c => {
+            if c < 64 {
+                return None;
+            }
+            Some((i + 1, depth))
         }
-        return Step::On(i + 1, depth - 1);
     }
-    if c == b'\'' {
-        return string_step(s, i, depth);
-    }
-    if c < 64 {
-        return Step::Stop(s.len());
-    }
-    Step::On(i + 1, depth)
 }
 
-// The `)` that closes the `(` before `from`, or the length where something unusual is met first.
-fn usual_close(s: &[u8], from: usize) -> usize
+// The `)` that closes the `(` before `from`; none where something unusual is met first.
+fn usual_close(s: &[u8], from: usize) -> Option<usize>
     requires { from ≤ length s.now }
     ensures { ClosingFound s.now from result }
 {
@@ -401,157 +346,94 @@ fn usual_close(s: &[u8], from: usize) -> usize
     loop {
         let m = plain_run(s, i);
         if s.len() <= m {
-            return m;
+            return None;
         }
-        match mark_step(s, m, depth) {
-            Step::Stop(at) => return at,
-            Step::On(next, d) => {
-                i = next;
-                depth = d;
-            }
+        if depth == 0 && s[m] == b')' {
+            return Some(m);
         }
+        let (next, open) = mark_step(s, m, depth)?;
+        i = next;
+        depth = open;
     }
 }
 
 // What stands from the `=` on, before the `(`.
-fn value_before(t: &[u8], id: u32, from: usize) -> Head
-    requires { Free 40 t.now × Numbered t.now 1 (Number.Value id from) × (1 < from) × (get_or t.now 0 0 ≡ 35) }
+fn value_before(t: &[u8], id: u32, from: usize) -> Option<Head>
+    requires { Free 40 t.now × Numbered t.now 1 (Some (id, from)) × (1 < from) × (get_or t.now 0 0 ≡ 35) }
     ensures { Headed t.now result }
 {
     let q = from + record::leading_space(&t[from..]);
-    if t.len() <= q {
-        return Head::Bad(5);
-    }
-    if t[q] != b'=' {
-        return Head::Bad(5);
+    if t.len() <= q || t[q] != b'=' {
+        return None;
     }
     let value = q + 1;
     let a = value + record::leading_space(&t[value..]);
     if t.len() <= a {
-        return Head::Complex(id, a);
+        return Some(Head::Complex(id, a));
     }
-    Head::Simple(id, a, record::trail_at(t, a), t.len())
+    Some(Head::Simple(id, a, record::trail_at(t, a), t.len()))
 }
 
 // The head of a data record by what stands before its first `(`.
-fn head_before(t: &[u8]) -> Head
+fn head_before(t: &[u8]) -> Option<Head>
     requires { Free 40 t.now }
     ensures { Headed t.now result }
 {
-    if t.len() == 0 {
-        return Head::Bad(2);
+    if t.len() == 0 || t[0] != b'#' {
+        return None;
     }
-    if t[0] != b'#' {
-        return Head::Bad(2);
+    let (id, at) = record::digits_at(t, 1)?;
+    if at == 1 {
+        return None;
     }
-    match record::digits_at(t, 1) {
-        Number::Over => Head::Bad(3),
-        Number::Value(id, at) => {
-            if at == 1 {
-                return Head::Bad(4);
-            }
-            value_before(t, id, at)
-        }
-    }
+    value_before(t, id, at)
 }
 
-// The row of a usual record by its head, whose `(`, `)` and `;` stand at these places.
-fn usual_row(s: &[u8], head: Head, start: usize, opening: usize, close: usize, end: usize) -> Usual
-    requires { Walked s.now start opening close end × Headed (take (opening - start) (drop start s.now)) head }
-    ensures { UsualSaid s.now start Section.InData result }
-{
-    let args = Range {
-        start: opening + 1,
-        end: close,
-    };
-    match head {
-        Head::Bad(_) => Usual::Unusual,
-        Head::Complex(id, _) => {
-            let keyword = Range { start: 0, end: 0 };
-            let complex = 1;
-            let span = RecordSpan {
-                id,
-                keyword,
-                args,
-                complex,
-            };
-            Usual::Whole(span, end + 1, close + 1 == end)
-        }
-        Head::Simple(id, a, z, _) => {
-            let keyword = Range {
-                start: start + a,
-                end: start + z,
-            };
-            let complex = 0;
-            let span = RecordSpan {
-                id,
-                keyword,
-                args,
-                complex,
-            };
-            Usual::Whole(span, end + 1, close + 1 == end)
-        }
-    }
-}
-
-// The data record that begins at start, read in one walk: to the first `(`, to the `)` that closes it, and to the `;`.
-fn usual_record(s: &[u8], start: usize) -> Usual
+// The data record that begins at start, read in one walk: to the first `(`, to the `)` that closes it, and to the `;`. With the place after
+// it, and whether it is tidy; none where it is not usual.
+fn usual_record(s: &[u8], start: usize) -> Option<(RecordSpan, usize, bool)>
     requires { start < length s.now }
     ensures { UsualSaid s.now start Section.InData result }
 {
     if s[start] != b'#' {
-        return Usual::Unusual;
+        return None;
     }
     let opening = plain_run(s, start);
-    if s.len() <= opening {
-        return Usual::Unusual;
+    if s.len() <= opening || s[opening] != b'(' {
+        return None;
     }
-    if s[opening] != b'(' {
-        return Usual::Unusual;
-    }
-    let close = usual_close(s, opening + 1);
-    if s.len() <= close {
-        return Usual::Unusual;
-    }
+    let close = usual_close(s, opening + 1)?;
     let end = plain_run(s, close + 1);
-    if s.len() <= end {
-        return Usual::Unusual;
+    if s.len() <= end || s[end] != b';' {
+        return None;
     }
-    if s[end] != b';' {
-        return Usual::Unusual;
-    }
-    usual_row(
-        s,
-        head_before(&s[start..opening]),
-        start,
-        opening,
-        close,
-        end,
-    )
+    let head = head_before(&s[start..opening])?;
+    let args = Range {
+        start: opening + 1,
+        end: close,
+    };
+    Some((row_at(start, head, args), end + 1, close + 1 == end))
 }
 
 // The statement that begins at start, where it is a usual data record.
-fn usual_at(s: &[u8], start: usize, section: Section) -> Usual
+fn usual_at(s: &[u8], start: usize, section: Section) -> Option<(RecordSpan, usize, bool)>
     requires { start < length s.now }
     ensures { UsualSaid s.now start section result }
 {
     match section {
-        Section::Outside => Usual::Unusual,
-        Section::InHeader => Usual::Unusual,
+        Section::Outside | Section::InHeader => None,
         Section::InData => usual_record(s, start),
     }
 }
 
 // What the statement says that begins at start, by a search for its end first.
-fn sought_at(s: &[u8], start: usize, section: Section) -> Said
+fn sought_at(s: &[u8], start: usize, section: Section) -> Result<Said, Fault>
     requires { start < length s.now }
     ensures result_value { told_said s.now result ≡ begun s.now section (drop start s.now) }
     ensures ahead { Ahead start (length s.now) result }
 {
-    match lex::find_record_end(s, start) {
-        FoundPlace::At(end) => record_said(s, start, end, section),
-        FoundPlace::Refused(f) => Said::Refuses(f),
-    }
+    let end = lex::find_record_end(s, start)?;
+    record_said(s, start, end, section)
 }
 
 // Whether one of the sixteen bytes from i on is a `;`. A loop that only notes a hit is done on all of them at once.
@@ -612,157 +494,109 @@ fn first_end(s: &[u8], from: usize) -> usize
 fn just_before(a: usize, b: usize) -> bool
     ensures { result ≡ eqb (a + 1) b }
 {
-    if b <= a {
-        return false;
-    }
-    b - a == 1
+    b.saturating_sub(a) == 1
 }
 
 // What was said of a statement, and whether it is tidy.
 fn note(s: &[u8], said: Said, i: usize) -> Noted
-    requires { Ahead i (length s.now) said }
-    ensures { (result.said ≡ said) × (result.tidy ≡ tidy s.now (told_said s.now said)) }
+    requires { Ahead i (length s.now) (Ok said) }
+    ensures { (result.said ≡ said) × (result.tidy ≡ tidy s.now (told_said s.now (Ok said))) }
 {
-    match said {
-        Said::Ends => Noted { said, tidy: true },
-        Said::Refuses(_) => Noted { said, tidy: false },
-        Said::Moves(_, _) => Noted { said, tidy: true },
-        Said::Heads(_, _, _) => Noted { said, tidy: true },
+    let tidy = match said {
+        Said::Ends | Said::Moves(_, _) | Said::Heads(_, _, _) => true,
         Said::Records(span, start, next) => {
             let end = first_end(s, start);
-            Noted {
-                said,
-                tidy: just_before(end, next) & just_before(span.args.end, end),
-            }
+            just_before(end, next) & just_before(span.args.end, end)
         }
-    }
+    };
+    Noted { said, tidy }
 }
 
 // What the statement says that begins at start, the first byte after trivia. Nearly every one is a usual record.
-fn statement_at(s: &[u8], start: usize, section: Section) -> Noted
+fn statement_at(s: &[u8], start: usize, section: Section) -> Result<Noted, Fault>
     requires { start < length s.now }
-    ensures said_value { told_said s.now result.said ≡ begun s.now section (drop start s.now) }
-    ensures ahead { Ahead start (length s.now) result.said }
-    ensures tidy_value { result.tidy ≡ tidy s.now (begun s.now section (drop start s.now)) }
+    ensures said_value { told_said s.now (said_in result) ≡ begun s.now section (drop start s.now) }
+    ensures ahead { Ahead start (length s.now) (said_in result) }
+    ensures tidy_value { noted_tidy result ≡ tidy s.now (begun s.now section (drop start s.now)) }
 {
     match usual_at(s, start, section) {
-        Usual::Unusual => note(s, sought_at(s, start, section), start),
-        Usual::Whole(span, next, tidy) => Noted {
+        None => Ok(note(s, sought_at(s, start, section)?, start)),
+        Some((span, next, tidy)) => Ok(Noted {
             said: Said::Records(span, start, next),
             tidy,
-        },
+        }),
     }
 }
 
 // Past trivia: in nearly every case whitespace alone, before a byte that opens no comment.
-fn lead_past(s: &[u8], i: usize) -> FoundPlace
+fn lead_past(s: &[u8], i: usize) -> Result<usize, Fault>
     requires { i ≤ length s.now }
-    ensures { told_found_place result ≡ placed s.now (trivia (drop i s.now)) }
+    ensures { told_result result ≡ placed s.now (trivia (drop i s.now)) }
 {
     let p = i + record::leading_space(&s[i..]);
-    if s.len() <= p {
+    if s.len() <= p || s[p] == b'/' {
         return lex::skip_trivia(s, i);
     }
-    if s[p] == b'/' {
-        return lex::skip_trivia(s, i);
-    }
-    FoundPlace::At(p)
+    Ok(p)
 }
 
 // What the first statement says from the place i on, in this section; from the file's end on there is none. And whether it is tidy.
-pub fn noted_statement(s: &[u8], i: usize, section: Section) -> Noted
-    ensures said_value { told_said s.now result.said ≡ statement s.now section (drop i s.now) }
-    ensures ahead { Ahead i (length s.now) result.said }
-    ensures tidy_value { result.tidy ≡ tidy s.now (statement s.now section (drop i s.now)) }
+pub fn noted_statement(s: &[u8], i: usize, section: Section) -> Result<Noted, Fault>
+    ensures said_value { told_said s.now (said_in result) ≡ statement s.now section (drop i s.now) }
+    ensures ahead { Ahead i (length s.now) (said_in result) }
+    ensures tidy_value { noted_tidy result ≡ tidy s.now (statement s.now section (drop i s.now)) }
 {
+    let none = Noted {
+        said: Said::Ends,
+        tidy: true,
+    };
     if s.len() <= i {
-        return Noted {
-            said: Said::Ends,
-            tidy: true,
-        };
+        return Ok(none);
     }
-    match lead_past(s, i) {
-        FoundPlace::Refused(f) => Noted {
-            said: Said::Refuses(f),
-            tidy: false,
-        },
-        FoundPlace::At(start) => {
-            if s.len() <= start {
-                return Noted {
-                    said: Said::Ends,
-                    tidy: true,
-                };
-            }
-            statement_at(s, start, section)
-        }
+    let start = lead_past(s, i)?;
+    if s.len() <= start {
+        return Ok(none);
     }
+    statement_at(s, start, section)
 }
 
 // The same without the note.
-pub fn next_statement(s: &[u8], i: usize, section: Section) -> Said
+pub fn next_statement(s: &[u8], i: usize, section: Section) -> Result<Said, Fault>
     ensures result_value { told_said s.now result ≡ statement s.now section (drop i s.now) }
     ensures ahead { Ahead i (length s.now) result }
 {
-    noted_statement(s, i, section).said
+    Ok(noted_statement(s, i, section)?.said)
 }
 
 // The record from start on whose `;` stands at end, by its head, with its `)` just before the `;`.
-fn tidy_at(s: &[u8], start: usize, end: usize) -> Tidied
+fn tidy_at(s: &[u8], start: usize, end: usize) -> Option<(RecordSpan, usize, usize)>
     requires { (start ≤ end) × (end < length s.now) }
     ensures result_value { told_tidied s.now result ≡ tidy_by s.now (drop start s.now) (drop end s.now) (data_head (take (end - start) (drop start s.now))) }
     ensures tidy_ahead { TidyAhead start (length s.now) result }
 {
-    match record::data_head(&s[start..end]) {
-        Head::Bad(_) => Tidied::Untidy,
-        Head::Complex(id, o) => {
-            let keyword = Range { start: 0, end: 0 };
-            let args = Range {
-                start: start + o + 1,
-                end: end - 1,
-            };
-            let complex = 1;
-            let span = RecordSpan {
-                id,
-                keyword,
-                args,
-                complex,
-            };
-            Tidied::Tidy(span, start, end + 1)
-        }
-        Head::Simple(id, key, blank, o) => {
-            let keyword = Range {
-                start: start + key,
-                end: start + blank,
-            };
-            let args = Range {
-                start: start + o + 1,
-                end: end - 1,
-            };
-            let complex = 0;
-            let span = RecordSpan {
-                id,
-                keyword,
-                args,
-                complex,
-            };
-            Tidied::Tidy(span, start, end + 1)
-        }
-    }
+    let Ok(head) = record::data_head(&s[start..end]) else {
+        return None;
+    };
+    let args = Range {
+        start: start + opening_of(head) + 1,
+        end: end - 1,
+    };
+    Some((row_at(start, head, args), start, end + 1))
 }
 
-// The data record from the place i on, after whitespace, as its first `;` gives it: what the statement says where that is tidy. A caller who
-// knows that reads it with nothing tested again.
-pub fn tidy_record(s: &[u8], i: usize) -> Tidied
+// The data record from the place i on, after whitespace, as its first `;` gives it, with its start and the place after it: what the statement
+// says where that is tidy. A caller who knows that reads it with nothing tested again.
+pub fn tidy_record(s: &[u8], i: usize) -> Option<(RecordSpan, usize, usize)>
     ensures result_value { told_tidied s.now result ≡ tidy_record s.now (drop i s.now) }
     ensures tidy_ahead { TidyAhead i (length s.now) result }
 {
     if s.len() <= i {
-        return Tidied::Untidy;
+        return None;
     }
     let start = i + record::leading_space(&s[i..]);
     let end = first_end(s, start);
     if s.len() <= end {
-        return Tidied::Untidy;
+        return None;
     }
     tidy_at(s, start, end)
 }

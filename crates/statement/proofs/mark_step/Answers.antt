@@ -1,18 +1,15 @@
 use Rattle.statement.specs.UsualLaws.{open_at, close_at, other_at}
-use native.Mathlib.Omega.{arith}
+use Rattle.std.proofs.Common.{rules, ◌≡◌, ◌≤◌, ◌-◌, arith}
 use Rattle.statement.proofs.mark_step.Goals as goal
 
-pub returns-then-c-eq40 : goal.returns-then-c-eq40
-returns-then-c-eq40 c = (omega arith, omega arith, omega arith, open_at c.args.s.now c.args.i c.args.depth c.requires.0 c.if-c-eq40.true)
+pub returns-in-40 : goal.returns-in-40
+returns-in-40 c = (omega arith, omega arith, omega arith, open_at c.args.s.now c.args.i c.args.depth c.requires.0 c.in-40.is)
 
-pub returns-then-c-eq41 : goal.returns-then-c-eq41
-returns-then-c-eq41 c = (omega arith, omega arith, omega arith, close_at c.args.s.now c.args.i c.args.depth c.requires.0 c.if-c-eq41.true c.if-depth-eq0.false)
+pub returns-in_ok-checked_sub-in-41 : goal.returns-in_ok-checked_sub-in-41
+returns-in_ok-checked_sub-in-41 c = let a = c.args in
+    let k : (1 ≤ a.depth) × (c.in_ok-checked_sub-in-41.field-0 ≡ a.depth - 1) = search rules in
+    (omega arith, omega arith, omega arith, rw k.1 (close_at a.s.now a.i a.depth c.requires.0 c.in-41.is (λ z. omega arith)))
 
-pub returns : goal.returns
-returns c = (
-  omega arith,
-  omega arith,
-  omega arith,
-  other_at c.args.s.now c.args.i c.args.depth c.requires.0 c.if-c-eq39.false c.if-c-eq40.false
-      c.if-c-eq41.false (λ e. omega arith) (λ e. omega arith),
-)
+pub returns-else-c-lt64 : goal.returns-else-c-lt64
+returns-else-c-lt64 c =
+    (omega arith, omega arith, omega arith, other_at c.args.s.now c.args.i c.args.depth c.requires.0 (λ e. omega arith) (λ e. omega arith) (λ e. omega arith) (λ e. omega arith) (λ e. omega arith))

@@ -1,40 +1,43 @@
-use Rattle.statement.specs.Laws.{complex_fits, simple_fits, record_bad, record_complex, record_simple}
-use lib.ListN.{take, drop}
-use Prim.Native.Nat.{◌-◌}
-use native.Mathlib.Omega.{arith}
-use mathlib.Core.Path.{sym, ◌∙◌}
+use Rattle.std.proofs.Common.{rules, ◌≡◌, ap, sym, ◌∙◌, arith, length, take, drop, ◌+◌, ◌-◌, Err}
+use Rattle.error.specs.Refusal.{good}
+use Rattle.statement.specs.Rows.{mapped}
+use Rattle.statement.specs.Row.{row_at}
+use Rattle.statement.specs.Laws.{head_fits, opening_within, within_more, record_bad, record_made}
 use Rattle.statement.proofs.scan_data_record.Goals as goal
 
-pub overflow_add-start : goal.overflow_add-start
-overflow_add-start c = let a = c.args in let w = complex_fits a.s.now a.start a.end (omega arith) (omega arith) _ _ (sym c.data_head.ensures ∙ c.in-Complex.is) in omega arith
+pub returns-in-Err : goal.returns-in-Err
+returns-in-Err c = let a = c.args in
+    record_bad a.s.now (take (a.end - a.start) (drop a.start a.s.now)) a.start _ (omega arith) (sym c.in-Err.ensures)
 
-pub record_args-requires : goal.record_args-requires
-record_args-requires c = let a = c.args in let w = complex_fits a.s.now a.start a.end (omega arith) (omega arith) _ _ (sym c.data_head.ensures ∙ c.in-Complex.is) in omega arith
+pub overflow_add-opening : goal.overflow_add-opening
+overflow_add-opening c = let a = c.args in
+    let w = head_fits a.s.now a.start a.end (omega arith) (omega arith) c.in-Ok.head (sym c.in-Ok.ensures) in
+    let n = opening_within (a.end - a.start) c.in-Ok.head w in
+    record { fits = omega arith }
 
-pub overflow_add-keyword : goal.overflow_add-keyword
-overflow_add-keyword c = let a = c.args in let w = simple_fits a.s.now a.start a.end (omega arith) (omega arith) _ _ _ _ (sym c.data_head.ensures ∙ c.in-Simple.is) in omega arith
+pub overflow_add-args : goal.overflow_add-args
+overflow_add-args c = let a = c.args in
+    let w = head_fits a.s.now a.start a.end (omega arith) (omega arith) c.in-Ok.head (sym c.in-Ok.ensures) in
+    let n = opening_within (a.end - a.start) c.in-Ok.head w in
+    record { fits = omega arith }
 
-pub overflow_add-keyword-in-Simple : goal.overflow_add-keyword-in-Simple
-overflow_add-keyword-in-Simple c = let a = c.args in let w = simple_fits a.s.now a.start a.end (omega arith) (omega arith) _ _ _ _ (sym c.data_head.ensures ∙ c.in-Simple.is) in omega arith
+pub row_at-requires : goal.row_at-requires
+row_at-requires c = let a = c.args in
+    (a.end - a.start, omega arith, head_fits a.s.now a.start a.end (omega arith) (omega arith) c.in-Ok.head (sym c.in-Ok.ensures))
 
-pub overflow_add-start-in-Simple : goal.overflow_add-start-in-Simple
-overflow_add-start-in-Simple c = let a = c.args in let w = simple_fits a.s.now a.start a.end (omega arith) (omega arith) _ _ _ _ (sym c.data_head.ensures ∙ c.in-Simple.is) in omega arith
+pub returns-in_err-close : goal.returns-in_err-close
+returns-in_err-close c = let a = c.args in
+    let h = c.in-Ok.head in
+    let w = head_fits a.s.now a.start a.end (omega arith) (omega arith) h (sym c.in-Ok.ensures) in
+    let n = opening_within (a.end - a.start) h w in
+    let m = record_made a.s.now (take (a.end - a.start) (drop a.start a.s.now)) a.start h (within_more (a.end - a.start) (length a.s.now - a.start) h (omega arith) w) (omega arith) (sym c.in-Ok.ensures) in
+    let k : c.from_residual.result ≡ Err c.in_err-close.field-0.0 = search rules in
+    rw k (ap (mapped (λ q. row_at a.start h (a.start + c.opening_of.result + 1) q)) c.in_err-close.ensures ∙ rw (← c.opening_of.ensures) at m)
 
-pub record_args-requires-in-Simple : goal.record_args-requires-in-Simple
-record_args-requires-in-Simple c = let a = c.args in let w = simple_fits a.s.now a.start a.end (omega arith) (omega arith) _ _ _ _ (sym c.data_head.ensures ∙ c.in-Simple.is) in omega arith
-
-pub returns-in-Bad : goal.returns-in-Bad
-returns-in-Bad c = let a = c.args in
-    record_bad a.s.now (take (a.end - a.start) (drop a.start a.s.now)) a.start _ (omega arith) (sym c.data_head.ensures ∙ c.in-Bad.is)
-
-pub returns-in-Complex : goal.returns-in-Complex
-returns-in-Complex c = let a = c.args in
-    let e = sym c.data_head.ensures ∙ c.in-Complex.is in
-    let w = complex_fits a.s.now a.start a.end (omega arith) (omega arith) _ _ e in
-    c.record_args.ensures ∙ record_complex a.s.now (take (a.end - a.start) (drop a.start a.s.now)) a.start _ _ (omega arith) e
-
-pub returns-in-Simple : goal.returns-in-Simple
-returns-in-Simple c = let a = c.args in
-    let e = sym c.data_head.ensures ∙ c.in-Simple.is in
-    let w = simple_fits a.s.now a.start a.end (omega arith) (omega arith) _ _ _ _ e in
-    c.record_args-in-Simple.ensures ∙ record_simple a.s.now (take (a.end - a.start) (drop a.start a.s.now)) a.start _ _ _ _ (omega arith) (omega arith) (omega arith) e
+pub returns : goal.returns
+returns c = let a = c.args in
+    let h = c.in-Ok.head in
+    let w = head_fits a.s.now a.start a.end (omega arith) (omega arith) h (sym c.in-Ok.ensures) in
+    let n = opening_within (a.end - a.start) h w in
+    let m = record_made a.s.now (take (a.end - a.start) (drop a.start a.s.now)) a.start h (within_more (a.end - a.start) (length a.s.now - a.start) h (omega arith) w) (omega arith) (sym c.in-Ok.ensures) in
+    ap good c.row_at.ensures ∙ ap (mapped (λ q. row_at a.start h (a.start + c.opening_of.result + 1) q)) c.in_ok-close.ensures ∙ (rw (← c.opening_of.ensures) at m)

@@ -1,82 +1,41 @@
-use Rattle.statement.specs.Laws.{complex_fits, simple_fits}
-use Rattle.statement.specs.TidyLaws.{tidy_none, tidy_complex, tidy_simple, head_after}
-use lib.ListN.{take, drop}
-use Prim.Native.Nat.{◌-◌}
-use native.Mathlib.Omega.{arith}
-use mathlib.Core.Path.{sym, ◌∙◌}
+use Rattle.std.proofs.Common.{sym, ◌∙◌, ap, arith, length, take, drop, ◌+◌, ◌-◌, Ok}
+use Rattle.statement.specs.Rows.{Row, data_statement}
+use Rattle.statement.specs.Laws.{head_fits, opening_within, within_more}
+use Rattle.statement.specs.TidyLaws.{tidy_made, head_after}
 use Rattle.statement.proofs.tidy_at.Goals as goal
 
 pub overflow_add-args : goal.overflow_add-args
 overflow_add-args c = let a = c.args in
-    let e = sym c.data_head.ensures ∙ c.in-Complex.is in
-    let w = complex_fits a.s.now a.start a.end (omega arith) (omega arith) _ _ e in
-    let l = head_after a.s.now a.start a.end _ (omega arith) (omega arith) tt e in
-    omega arith
+    let w = head_fits a.s.now a.start a.end (omega arith) (omega arith) c.in-Ok.head (sym c.in-Ok.ensures) in
+    let n = opening_within (a.end - a.start) c.in-Ok.head w in
+    let l = head_after a.s.now a.start a.end (Ok c.in-Ok.head) (omega arith) (omega arith) tt (sym c.in-Ok.ensures) in
+    record { fits = omega arith }
 
-pub overflow_add-args-in-Complex : goal.overflow_add-args-in-Complex
-overflow_add-args-in-Complex c = let a = c.args in
-    let e = sym c.data_head.ensures ∙ c.in-Complex.is in
-    let w = complex_fits a.s.now a.start a.end (omega arith) (omega arith) _ _ e in
-    let l = head_after a.s.now a.start a.end _ (omega arith) (omega arith) tt e in
-    omega arith
+pub overflow_add-args-2 : goal.overflow_add-args-2
+overflow_add-args-2 c = let a = c.args in
+    let w = head_fits a.s.now a.start a.end (omega arith) (omega arith) c.in-Ok.head (sym c.in-Ok.ensures) in
+    let n = opening_within (a.end - a.start) c.in-Ok.head w in
+    let l = head_after a.s.now a.start a.end (Ok c.in-Ok.head) (omega arith) (omega arith) tt (sym c.in-Ok.ensures) in
+    record { fits = omega arith }
 
 pub overflow_sub-args : goal.overflow_sub-args
 overflow_sub-args c = let a = c.args in
-    let e = sym c.data_head.ensures ∙ c.in-Complex.is in
-    let w = complex_fits a.s.now a.start a.end (omega arith) (omega arith) _ _ e in
-    let l = head_after a.s.now a.start a.end _ (omega arith) (omega arith) tt e in
+    let w = head_fits a.s.now a.start a.end (omega arith) (omega arith) c.in-Ok.head (sym c.in-Ok.ensures) in
+    let n = opening_within (a.end - a.start) c.in-Ok.head w in
+    let l = head_after a.s.now a.start a.end (Ok c.in-Ok.head) (omega arith) (omega arith) tt (sym c.in-Ok.ensures) in
     omega arith
 
-pub overflow_add-keyword : goal.overflow_add-keyword
-overflow_add-keyword c = let a = c.args in
-    let e = sym c.data_head.ensures ∙ c.in-Simple.is in
-    let w = simple_fits a.s.now a.start a.end (omega arith) (omega arith) _ _ _ _ e in
-    let l = head_after a.s.now a.start a.end _ (omega arith) (omega arith) tt e in
-    omega arith
+pub row_at-requires : goal.row_at-requires
+row_at-requires c = let a = c.args in
+    let w = head_fits a.s.now a.start a.end (omega arith) (omega arith) c.in-Ok.head (sym c.in-Ok.ensures) in
+    let n = opening_within (a.end - a.start) c.in-Ok.head w in
+    let l = head_after a.s.now a.start a.end (Ok c.in-Ok.head) (omega arith) (omega arith) tt (sym c.in-Ok.ensures) in
+    (a.end - a.start, omega arith, w)
 
-pub overflow_add-keyword-in-Simple : goal.overflow_add-keyword-in-Simple
-overflow_add-keyword-in-Simple c = let a = c.args in
-    let e = sym c.data_head.ensures ∙ c.in-Simple.is in
-    let w = simple_fits a.s.now a.start a.end (omega arith) (omega arith) _ _ _ _ e in
-    let l = head_after a.s.now a.start a.end _ (omega arith) (omega arith) tt e in
-    omega arith
-
-pub overflow_add-args-in-Simple : goal.overflow_add-args-in-Simple
-overflow_add-args-in-Simple c = let a = c.args in
-    let e = sym c.data_head.ensures ∙ c.in-Simple.is in
-    let w = simple_fits a.s.now a.start a.end (omega arith) (omega arith) _ _ _ _ e in
-    let l = head_after a.s.now a.start a.end _ (omega arith) (omega arith) tt e in
-    omega arith
-
-pub overflow_add-args-in-Simple-2 : goal.overflow_add-args-in-Simple-2
-overflow_add-args-in-Simple-2 c = let a = c.args in
-    let e = sym c.data_head.ensures ∙ c.in-Simple.is in
-    let w = simple_fits a.s.now a.start a.end (omega arith) (omega arith) _ _ _ _ e in
-    let l = head_after a.s.now a.start a.end _ (omega arith) (omega arith) tt e in
-    omega arith
-
-pub overflow_sub-args-in-Simple : goal.overflow_sub-args-in-Simple
-overflow_sub-args-in-Simple c = let a = c.args in
-    let e = sym c.data_head.ensures ∙ c.in-Simple.is in
-    let w = simple_fits a.s.now a.start a.end (omega arith) (omega arith) _ _ _ _ e in
-    let l = head_after a.s.now a.start a.end _ (omega arith) (omega arith) tt e in
-    omega arith
-
-pub returns-in-Bad : goal.returns-in-Bad
-returns-in-Bad c = let a = c.args in
-    let e = sym c.data_head.ensures ∙ c.in-Bad.is in
-    record { result_value = tidy_none a.s.now a.start a.end (take (a.end - a.start) (drop a.start a.s.now)) (omega arith) (omega arith) _ e; tidy_ahead = tt }
-
-pub returns-in-Complex : goal.returns-in-Complex
-returns-in-Complex c = let a = c.args in
-    let e = sym c.data_head.ensures ∙ c.in-Complex.is in
-    let w = complex_fits a.s.now a.start a.end (omega arith) (omega arith) _ _ e in
-    let l = head_after a.s.now a.start a.end _ (omega arith) (omega arith) tt e in
-    record { result_value = tidy_complex a.s.now a.start a.end (take (a.end - a.start) (drop a.start a.s.now)) (omega arith) (omega arith) _ _ (omega arith) e; tidy_ahead = (omega arith, omega arith, omega arith) }
-
-pub returns-in-Simple : goal.returns-in-Simple
-returns-in-Simple c = let a = c.args in
-    let e = sym c.data_head.ensures ∙ c.in-Simple.is in
-    let w = simple_fits a.s.now a.start a.end (omega arith) (omega arith) _ _ _ _ e in
-    let l = head_after a.s.now a.start a.end _ (omega arith) (omega arith) tt e in
-    record { result_value = tidy_simple a.s.now a.start a.end (take (a.end - a.start) (drop a.start a.s.now)) (omega arith) (omega arith) _ _ _ _ (omega arith) (omega arith) (omega arith) e; tidy_ahead = (omega arith, omega arith, omega arith) }
+pub returns-clause-result_value : goal.returns-clause-result_value
+returns-clause-result_value c = let a = c.args in
+    let h = c.in-Ok.head in
+    let w = head_fits a.s.now a.start a.end (omega arith) (omega arith) h (sym c.in-Ok.ensures) in
+    let n = opening_within (a.end - a.start) h w in
+    let m = tidy_made a.s.now a.start a.end (take (a.end - a.start) (drop a.start a.s.now)) (omega arith) (omega arith) h (within_more (a.end - a.start) (length a.s.now - a.start) h (omega arith) w) (omega arith) (sym c.in-Ok.ensures) in
+    ap (λ (r : Row). data_statement r (drop a.start a.s.now) (drop (a.end + 1) a.s.now)) c.row_at.ensures ∙ (rw (← c.opening_of.ensures) at m)

@@ -11,7 +11,7 @@ use Rattle.record.specs.Form.{Free}
 use Rattle.common.specs.Bytes.{bytes}
 use Rattle.record.specs.Text.{past, number_from, keyword, trail}
 use Rattle.record.specs.Head.{data_head, header_head}
-use Rattle.record.specs.Word.{same_bytes, word_of}
+use Rattle.record.specs.Word.{word_of}
 use Rattle.statement.specs.Row.{record_of, header_of}
 use Rattle.statement.specs.Statement.{statement}
 use Rattle.statement.specs.Closed.{ClosedAt, ClosedParts, ClosedData, ClosedHeader, ClosedFrom, Closed, Content}
@@ -93,7 +93,7 @@ closed_header = ClosedHeader.named refl (closed_after (bytes "FILE_SCHEMA") (byt
 
 -- the whole file of example 1 is closed
 pub closed_example : Closed example
-unfolding statement trivia record_end closing walk record_of header_of data_head header_head past number_from keyword trail word_of same_bytes
+unfolding statement trivia record_end closing walk record_of header_of data_head header_head past number_from keyword trail word_of
 closed_example =
     ClosedFrom.turn refl
     (ClosedFrom.turn refl
@@ -111,7 +111,7 @@ crossing = bytes "ISO-10303-21;DATA;#1=A((1);#2=B(2));ENDSEC;"
 
 -- a file with the records of example 11 is not closed
 pub unclosed_file : Closed crossing → ⊥
-unfolding statement trivia record_end closing walk record_of data_head past number_from keyword trail word_of same_bytes
+unfolding statement trivia record_end closing walk record_of data_head past number_from keyword trail word_of
 unclosed_file c =
     let d = closed_turn (closed_turn c Outside _ refl) InData _ refl in
     example_unclosed (closed_entry d _ (bytes "#1=A((1)") _ refl).0
