@@ -6,7 +6,6 @@
 #![tactic(auto)]
 
 ghost use Rattle.std.specs.Prelude.{◌≡◌, ◌+◌, ◌≤◌, ◌<◌, ◌^◌, min, true, false, ◌||◌, length, drop};
-ghost use Rattle.common.specs.Pick.{pick};
 ghost use Rattle.error.specs.Refusal.{told_result};
 ghost use Rattle.lex.specs.Byte.{white};
 ghost use Rattle.lex.specs.ByteSearch.{NoneBetween};
@@ -40,10 +39,8 @@ fn block_has(s: &[u8], at: usize, b: u8) -> bool
     ensures { result ≡ false → Lacks b s.now at (at + 64) }
 {
     let mut hit = false;
-    let mut k = 0;
-    while k < 64 {
-        hit = hit | (s[at + k] == b);
-        k += 1;
+    for k in 0..64 {
+        hit |= s[at + k] == b;
     }
     hit
 }
@@ -68,22 +65,20 @@ fn pass_bytes(s: &[u8], from: usize, end: usize, b: u8) -> usize
     requires { (from ≤ end) × (end ≤ length s.now) }
     ensures { Stopped b s.now from end result }
 {
-    let mut i = from;
-    while i < end {
+    for i in from..end {
         if s[i] == b {
             return i;
         }
-        i += 1;
     }
-    i
+    end
 }
 
 // The first place from `start` on that has the byte b, or the length. Most are near; what is far is sought by blocks.
 pub fn find(s: &[u8], start: usize, b: u8) -> usize
     ensures { Stopped b s.now (min start (length s.now)) (length s.now) result }
 {
-    let from = common::within(start, s.len());
-    let near = common::within(from + 16, s.len());
+    let from = start.min(s.len());
+    let near = (from + 16).min(s.len());
     let i = pass_bytes(s, from, near, b);
     if i < near {
         return i;
@@ -130,7 +125,7 @@ fn next_quote(s: &[u8], i: usize) -> usize
     requires { i ≤ length s.now }
     ensures { Stopped 39 s.now i (length s.now) result }
 {
-    let near = common::within(i + 8, s.len());
+    let near = (i + 8).min(s.len());
     let q = pass_bytes(s, i, near, b'\'');
     if q < near {
         return q;
@@ -142,7 +137,7 @@ fn next_quote(s: &[u8], i: usize) -> usize
 pub fn text_end(s: &[u8], from: usize) -> Option<usize>
     ensures { TextEnds s.now from result }
 {
-    let mut i = common::within(from, s.len());
+    let mut i = from.min(s.len());
     while i < s.len() {
         if s[i] == b'\'' {
             match quote_before(s, i + 1) {
@@ -210,13 +205,11 @@ fn block_ends(s: &[u8], at: usize) -> bool
     let mut quote = false;
     let mut slash = false;
     let mut end = false;
-    let mut k = 0;
-    while k < 64 {
+    for k in 0..64 {
         let b = s[at + k];
-        quote = quote | (b == b'\'');
-        slash = slash | (b == b'/');
-        end = end | (b == b';');
-        k += 1;
+        quote |= b == b'\'';
+        slash |= b == b'/';
+        end |= b == b';';
     }
     quote | slash | end
 }
@@ -242,7 +235,7 @@ fn pass_quiet(s: &[u8], from: usize) -> usize
 pub fn find_record_end(s: &[u8], start: usize) -> Result<usize, Fault>
     ensures { told_result result ≡ placed s.now (record_end (drop start s.now)) }
 {
-    let from = common::within(start, s.len());
+    let from = start.min(s.len());
     let mut i = from;
     let mut near = from + 64;
     while i < s.len() {
@@ -292,21 +285,6 @@ struct Stand {
     depth: usize,
 }
 
-// A test as a number to be added.
-fn one_if(t: bool) -> u8
-    ensures value { result ≡ pick t 1 0 }
-    ensures upper_bound { result ≤ 1 }
-{
-    if t { 1 } else { 0 }
-}
-
-// A byte as a place.
-fn wide(n: u8) -> usize
-    ensures { result ≡ n }
-{
-    n as usize
-}
-
 // What the 64 bytes from `at` on do to a search for a `)`. The counts are bytes, so that the compiler counts in many of them at once.
 fn block_tally(s: &[u8], at: usize) -> Tally
     requires { at + 64 ≤ length s.now }
@@ -317,14 +295,12 @@ fn block_tally(s: &[u8], at: usize) -> Tally
     let mut slash = false;
     let mut up: u8 = 0;
     let mut down: u8 = 0;
-    let mut k = 0;
-    while k < 64 {
+    for k in 0..64 {
         let b = s[at + k];
-        quote = quote | (b == b'\'');
-        slash = slash | (b == b'/');
-        up = up + one_if(b == b'(');
-        down = down + one_if(b == b')');
-        k += 1;
+        quote |= b == b'\'';
+        slash |= b == b'/';
+        up += u8::from(b == b'(');
+        down += u8::from(b == b')');
     }
     Tally {
         quote,
@@ -344,11 +320,11 @@ fn pass_calm(s: &[u8], from: usize, opened: usize) -> Stand
     let mut depth = opened;
     while s.len() - i >= 64 {
         let t = block_tally(s, i);
-        let down = wide(t.down);
+        let down = usize::from(t.down);
         if t.quote | t.slash | (depth < down) {
             return Stand { at: i, depth };
         }
-        depth = depth + wide(t.up) - down;
+        depth = depth + usize::from(t.up) - down;
         i += 64;
     }
     Stand { at: i, depth }
@@ -358,8 +334,8 @@ fn pass_calm(s: &[u8], from: usize, opened: usize) -> Stand
 pub fn matching_paren(s: &[u8], opening: usize) -> Result<usize, Fault>
     ensures { told_result result ≡ placed s.now (closing (drop opening s.now)) }
 {
-    let from = common::within(opening, s.len());
-    let mut i = common::within(from + 1, s.len());
+    let from = opening.min(s.len());
+    let mut i = (from + 1).min(s.len());
     let mut depth: usize = 0;
     let mut near = i + 64;
     while i < s.len() {
@@ -383,7 +359,7 @@ pub fn matching_paren(s: &[u8], opening: usize) -> Result<usize, Fault>
 pub fn skip_trivia(s: &[u8], start: usize) -> Result<usize, Fault>
     ensures { told_result result ≡ placed s.now (trivia (drop start s.now)) }
 {
-    let mut i = common::within(start, s.len());
+    let mut i = start.min(s.len());
     while i < s.len() {
         let c = s[i];
         if is_space(c) {

@@ -7,5 +7,3 @@ use Rattle.lex.proofs.block_ends.Given as goal
 abbrev pub invariant-loop-k : goal.invariant-loop-k
 invariant-loop-k l = Noting (Quiet l.s l.at) 64 ((l.quote || l.slash) || l.end) l.at l.k
 
-abbrev pub decreases-loop-k : goal.decreases-loop-k
-decreases-loop-k l = 64 - l.k

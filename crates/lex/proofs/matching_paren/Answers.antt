@@ -15,20 +15,20 @@ use Rattle.std.proofs.lemmas.Result.{err_from_is_err_and}
 use Rattle.lex.proofs.matching_paren.Goals as goal
 
 pub overflow_add-from : goal.overflow_add-from
-overflow_add-from c = omega (arith, c.within-from.ensures)
+overflow_add-from c = omega (arith, c.min-from.ensures)
 
 pub overflow_add-near : goal.overflow_add-near
-overflow_add-near c = omega (arith, c.within-i.ensures)
+overflow_add-near c = omega (arith, c.min-i.ensures)
 
 pub loop-i-init : goal.loop-i-init
 unfolding closing
 loop-i-init c = let s = c.args.s.now in
     let p = c.args.opening in
-    let from = c.within-from.result in
-    let e : drop from s ≡ drop p s = ap (λ (k : ℕ). drop k s) c.within-from.ensures ∙ drop_within s p in
-    let f : drop c.within-i.result s ≡ drop 1 (drop from s) =
-    ap (λ (k : ℕ). drop k s) c.within-i.ensures ∙ drop_within s (from + 1) ∙ sym (drop-drop 1 from s) in
-    ((omega (arith, c.within-i.ensures), omega arith), rw f (ap closing e))
+    let from = c.min-from.result in
+    let e : drop from s ≡ drop p s = ap (λ (k : ℕ). drop k s) c.min-from.ensures ∙ drop_within s p in
+    let f : drop c.min-i.result s ≡ drop 1 (drop from s) =
+    ap (λ (k : ℕ). drop k s) c.min-i.ensures ∙ drop_within s (from + 1) ∙ sym (drop-drop 1 from s) in
+    ((omega (arith, c.min-i.ensures), omega arith), rw f (ap closing e))
 
 pub overflow_add-near-then-near-i : goal.overflow_add-near-then-near-i
 overflow_add-near-then-near-i c = let t = c.pass_calm-t.ensures in omega (arith, t.inside)
@@ -40,14 +40,14 @@ pub loop-i-preserved-then-near-i : goal.loop-i-preserved-then-near-i
 loop-i-preserved-then-near-i c = let l = c.loop-i in
     let s = c.args.s.now in
     let t = c.pass_calm-t.ensures in
-    ((omega (arith, t.inside), omega (arith, t.low)), sym (t.same 6 (drop c.within-from.result s)) ∙ l.invariant.1)
+    ((omega (arith, t.inside), omega (arith, t.low)), sym (t.same 6 (drop c.min-from.result s)) ∙ l.invariant.1)
 
 pub returns-in_default : goal.returns-in_default
 returns-in_default c = let l = c.loop-i in
     let s = c.args.s.now in
     ap good (sym (place_drop s l.i (omega arith)))
     ∙ ap (placed s)
-    (seek_halts_at paren (missed 6 (drop c.within-from.result s)) s l.i (omega arith) Plain l.depth l.i _ refl
+    (seek_halts_at paren (missed 6 (drop c.min-from.result s)) s l.i (omega arith) Plain l.depth l.i _ refl
     (sym c.depth_after.ensures ∙ ap look_of c.in_default.is) l.invariant.1)
 
 pub returns-in_err-i : goal.returns-in_err-i
@@ -55,7 +55,7 @@ returns-in_err-i c = let l = c.loop-i in
     let s = c.args.s.now in
     let k = sym c.depth_after.ensures ∙ ap look_of c.in-Some.is in
     let p = err_from_is_err_and c.from_residual.result c.from_residual.ensures.1 in
-    rw (p.1, p.2) (sym (c.in_err-i.ensures paren 6 (drop c.within-from.result s) l.depth _ k) ∙ ap (placed s) l.invariant.1)
+    rw (p.1, p.2) (sym (c.in_err-i.ensures paren 6 (drop c.min-from.result s) l.depth _ k) ∙ ap (placed s) l.invariant.1)
 
 pub loop-i-smaller : goal.loop-i-smaller
 loop-i-smaller c = let e = c.in_ok-i.ensures in
@@ -67,11 +67,11 @@ loop-i-preserved c = let l = c.loop-i in
     let e = c.in_ok-i.ensures in
     let k = sym c.depth_after.ensures ∙ ap look_of c.in-Some.is in
     let up = paren_up l.depth (get_or s l.i 0) _ k in
-    ((omega (arith, e.1), omega (arith, e.0, up)), sym (e.2 paren 6 (drop c.within-from.result s) l.depth _ k) ∙ l.invariant.1)
+    ((omega (arith, e.1), omega (arith, e.0, up)), sym (e.2 paren 6 (drop c.min-from.result s) l.depth _ k) ∙ l.invariant.1)
 
 pub returns : goal.returns
 returns c = let l = c.loop-i in
     let s = c.args.s.now in
-    let from = c.within-from.result in
-    ap (λ (k : ℕ). bad (refusal 6 0 k)) (sym (place_drop s from (omega (arith, c.within-from.ensures))))
+    let from = c.min-from.result in
+    ap (λ (k : ℕ). bad (refusal 6 0 k)) (sym (place_drop s from (omega (arith, c.min-from.ensures))))
     ∙ ap (placed s) (sym (walk_ends (seek_turn paren) (missed 6 (drop from s)) (seen Plain l.depth (drop l.i s)) s l.i (omega arith)) ∙ l.invariant.1)

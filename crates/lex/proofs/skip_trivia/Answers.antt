@@ -13,7 +13,7 @@ use Rattle.lex.proofs.skip_trivia.Goals as goal
 
 pub loop-i-init : goal.loop-i-init
 loop-i-init c = let s = c.args.s.now in
-    (omega (arith, c.within-i.ensures), ap trivia (ap (λ (k : ℕ). drop k s) c.within-i.ensures ∙ drop_within s c.args.start))
+    (omega (arith, c.min-i.ensures), ap trivia (ap (λ (k : ℕ). drop k s) c.min-i.ensures ∙ drop_within s c.args.start))
 
 pub loop-i-preserved-then-is_space : goal.loop-i-preserved-then-is_space
 loop-i-preserved-then-is_space c = let s = c.args.s.now in

@@ -11,7 +11,7 @@ use Rattle.lex.proofs.text_end.Goals as goal
 
 pub loop-i-init : goal.loop-i-init
 loop-i-init c = let a = c.args in
-    let e = c.within-i.ensures in
+    let e = c.min-i.ensures in
     (omega (arith, e), subst (λ k. InText a.s.now a.from k) (sym e) (in_text_start a.s.now a.from))
 
 -- what the quote at i is, and so what the search has found there
