@@ -8,41 +8,24 @@ pub fn spelt<R: Print>(rt: &R, buffer: &mut [u8], pen: Pen, t: &[u8], letter: u8
         return byte(rt, buffer, pen, b'-');
     }
     let mut last = pen;
-    let mut i = 0;
-    while i < t.len() {
-        let b = t[i];
-        let ways = spellings(b);
-        last = bytes(
-            rt,
-            buffer,
-            last,
-            cut(&ways, first(b, letter), stop(b, letter)),
-        );
-        i += 1;
+    for b in t {
+        let ways = spellings(*b);
+        last = bytes(rt, buffer, last, chosen(&ways, *b, letter));
     }
     last
 }
 
 // The ways to put a byte, one behind the other: `\x` and its two hex digits, of which these may stand alone, and the byte itself.
 fn spellings(b: u8) -> [u8; 5] {
-    [b'\\', b'x', digit(b / 16), digit(b % 16), b]
+    [b'\\', b'x', digit(b / 16), digit(b), b]
 }
 
-// Where the way begins that a byte is put.
-fn first(b: u8, letter: u8) -> usize {
+// The way that a byte is put.
+fn chosen(ways: &[u8; 5], b: u8, letter: u8) -> &[u8] {
     match letter {
-        b'h' => 2,
-        b's' => if is_hidden(b) { 0 } else { 4 },
-        _ => 4,
-    }
-}
-
-// Where it ends.
-fn stop(b: u8, letter: u8) -> usize {
-    match letter {
-        b'h' => 4,
-        b's' => if is_hidden(b) { 4 } else { 5 },
-        _ => 5,
+        b'h' => &ways[2..4],
+        b's' if is_hidden(b) => &ways[..4],
+        _ => &ways[4..],
     }
 }
 
@@ -52,21 +35,13 @@ fn is_hidden(b: u8) -> bool {
 }
 
 // From start up to end, and nothing where that is no part of the bytes.
-pub fn cut<'a>(t: &'a [u8], start: usize, end: usize) -> &'a [u8] {
-    if start <= end {
-        if end <= t.len() {
-            return &t[start..end];
-        }
-    }
-    &t[..0]
+pub fn cut(t: &[u8], start: usize, end: usize) -> &[u8] {
+    t.get(start..end).unwrap_or(&[])
 }
 
-// A hex digit, of a number below 16.
+// The hex digit of a number's last four bits.
 fn digit(n: u8) -> u8 {
-    if n < 10 {
-        return b'0' + n;
-    }
-    std::num::wrapping_add_u8(b'a' - 10, n)
+    b"0123456789abcdef"[usize::from(n % 16)]
 }
 
 // Puts the 16 digits of a number of 64 bits.

@@ -9,7 +9,7 @@ mod digits;
 mod patterns;
 mod refusal;
 
-ghost use Rattle.std.specs.Prelude.{◌≡◌, ◌<◌, ◌≤◌, [], ◌∷◌, length};
+ghost use Rattle.std.specs.Prelude.{◌≡◌, ◌<◌, [], ◌∷◌, length};
 ghost use Rattle.printing.specs.Put.{Put, PutNumber};
 
 pub use patterns::{Line, form};
@@ -18,35 +18,35 @@ pub use patterns::{Line, form};
 pub struct Pen {
     // How many bytes of the buffer are used.
     pub used: usize,
-    // 1 once something could not be written, else 0.
-    pub lost: usize,
+    // Whether something could not be written.
+    pub lost: bool,
 }
 
 // A pen for a buffer that holds nothing yet.
 pub fn fresh() -> Pen
     ensures { result.used ≡ 0 }
 {
-    Pen { used: 0, lost: 0 }
-}
-
-fn least(a: usize, b: usize) -> usize
-    ensures { result ≤ b }
-{
-    if a < b { a } else { b }
+    Pen {
+        used: 0,
+        lost: false,
+    }
 }
 
 // Writes out what the buffer holds.
 pub fn flush<R: Print>(rt: &R, buffer: &[u8], pen: Pen) -> Pen
     ensures { result.used ≡ 0 }
 {
-    let n = least(pen.used, buffer.len());
+    let n = pen.used.min(buffer.len());
     if rt.write_all(&buffer[..n]).is_ok() {
         return Pen {
             used: 0,
             lost: pen.lost,
         };
     }
-    Pen { used: 0, lost: 1 }
+    Pen {
+        used: 0,
+        lost: true,
+    }
 }
 
 // The pen, after a flush where the buffer is full.
@@ -73,7 +73,10 @@ pub fn byte<R: Print>(rt: &R, buffer: &mut [u8], pen: Pen, b: u8) -> Pen
             lost: roomy.lost,
         };
     }
-    Pen { used: 0, lost: 1 }
+    Pen {
+        used: 0,
+        lost: true,
+    }
 }
 
 // Puts bytes, in their order.
@@ -81,10 +84,8 @@ pub fn bytes<R: Print>(rt: &R, buffer: &mut [u8], pen: Pen, words: &[u8]) -> Pen
     ensures { Put buffer.old pen.used words.now buffer.new result.used }
 {
     let mut last = pen;
-    let mut i = 0;
-    while i < words.len() {
-        last = byte(rt, buffer, last, words[i]);
-        i += 1;
+    for b in words {
+        last = byte(rt, buffer, last, *b);
     }
     last
 }
@@ -101,7 +102,7 @@ pub fn decimal<R: Print>(rt: &R, buffer: &mut [u8], pen: Pen, n: u64) -> Pen
 // Writes out what the buffer still holds at a program's end, and says so where something could not be written.
 pub fn finish<R: Print + Eprint>(rt: &R, buffer: &[u8], pen: Pen) {
     let last = flush(rt, buffer, pen);
-    if last.lost != 0 {
+    if last.lost {
         let _ = eprintln!(rt; "standard output could not be written whole");
     }
 }
