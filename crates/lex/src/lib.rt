@@ -34,6 +34,8 @@ pub fn is_space(b: u8) -> bool
 }
 
 // Whether one of the 64 bytes from `at` on is b. It only notes a hit, so that the compiler looks at many bytes at once.
+// Kept: one function for the three that look at a block, over a closure that tests a byte, makes them a tenth slower, and `any` or `filter` and
+// `count` sixteen times.
 fn block_has(s: &[u8], at: usize, b: u8) -> bool
     requires { at + 64 ≤ length s.now }
     ensures { result ≡ false → Lacks b s.now at (at + 64) }
@@ -61,16 +63,19 @@ fn pass_blocks(s: &[u8], from: usize, b: u8) -> usize
 }
 
 // Past the bytes that are not b, from `from` on and before `end`.
+// Kept: a `for` over the places makes the search for a `;` 6% slower, and `position` this loop 4%.
 fn pass_bytes(s: &[u8], from: usize, end: usize, b: u8) -> usize
     requires { (from ≤ end) × (end ≤ length s.now) }
     ensures { Stopped b s.now from end result }
 {
-    for i in from..end {
+    let mut i = from;
+    while i < end {
         if s[i] == b {
             return i;
         }
+        i += 1;
     }
-    end
+    i
 }
 
 // The first place from `start` on that has the byte b, or the length. Most are near; what is far is sought by blocks.
@@ -134,6 +139,7 @@ fn next_quote(s: &[u8], i: usize) -> usize
 }
 
 // Where the string ends whose first quote stands before `from`; what byte stands there is not looked at.
+// Kept: the loop leaps from quote to quote, which no `for` counts.
 pub fn text_end(s: &[u8], from: usize) -> Option<usize>
     ensures { TextEnds s.now from result }
 {
@@ -161,6 +167,7 @@ fn past_text(s: &[u8], q: usize) -> Result<usize, Fault>
 }
 
 // Past the comment whose `/` stands at q and its `*` after it.
+// Kept: the loop leaps from star to star, which no `for` counts.
 fn past_remark(s: &[u8], q: usize) -> Result<usize, Fault>
     requires { q + 2 ≤ length s.now }
     ensures { LeavesOrRefused s.now Mode.Remark q (q + 2) result }
@@ -232,6 +239,7 @@ fn pass_quiet(s: &[u8], from: usize) -> usize
 
 // Finds the `;` that ends the record that begins at `start`. The bytes are looked at one by one up to `near`, then by blocks while that passes
 // any: most records are short.
+// Kept: the loop leaps over strings, comments and blocks, which no `for` counts.
 pub fn find_record_end(s: &[u8], start: usize) -> Result<usize, Fault>
     ensures { told_result result ≡ placed s.now (record_end (drop start s.now)) }
 {
@@ -331,6 +339,7 @@ fn pass_calm(s: &[u8], from: usize, opened: usize) -> Stand
 }
 
 // Finds the `)` that closes the `(` at `opening`; what byte stands there is not looked at. By bytes and blocks as the search for a `;`.
+// Kept: the loop leaps as that search does.
 pub fn matching_paren(s: &[u8], opening: usize) -> Result<usize, Fault>
     ensures { told_result result ≡ placed s.now (closing (drop opening s.now)) }
 {
@@ -356,6 +365,7 @@ pub fn matching_paren(s: &[u8], opening: usize) -> Result<usize, Fault>
 }
 
 // Goes past whitespace and comments: the place of the first byte that is neither, or the file's end.
+// Kept: the loop leaps over comments, which no `for` counts.
 pub fn skip_trivia(s: &[u8], start: usize) -> Result<usize, Fault>
     ensures { told_result result ≡ placed s.now (trivia (drop start s.now)) }
 {

@@ -6,4 +6,3 @@ use Rattle.lex.proofs.block_ends.Given as goal
 
 abbrev pub invariant-loop-k : goal.invariant-loop-k
 invariant-loop-k l = Noting (Quiet l.s l.at) 64 ((l.quote || l.slash) || l.end) l.at l.k
-
