@@ -1,13 +1,12 @@
 -- The rows of many ids: what each number of the lent list then is.
 -- Assumes nothing.
 -- Definitions to be believed: no law, and nothing computed that no theorem ties (docs/BELIEVE.md).
-use Rattle.std.specs.Prelude.{ℕ, ◌≤◌, ◌<◌, ◌≡◌, List, length, get_or}
-use Rattle.std.proofs.Math.Option.{Option, none, some}
+use Rattle.std.specs.Prelude.{ℕ, ◌≤◌, ◌<◌, ◌≡◌, List, length, get_or, Option, Some, None}
 
 -- a row's number, or a number that no row has
 abbrev pub row_number : Option ℕ → ℕ
-row_number none = 4294967295
-row_number (some r) = r
+row_number None = 4294967295
+row_number (Some r) = r
 
 -- the first m numbers of the list tell what f says of the first m ids; all others are as they were
 pub record FirstRowsTold (f : ℕ → ℕ) (ids before : List ℕ) (m : ℕ) (after : List ℕ) : Type 0 where

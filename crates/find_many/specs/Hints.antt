@@ -1,9 +1,8 @@
 -- The looks that come before a search, for many ids at once: a row that can be told without reading rows is what the search finds,
 -- if it has the id. The laws say so for any slots and any numbers beside them.
 -- Assumes nothing.
-use Rattle.std.specs.Prelude.{ℕ, ◌+◌, ◌-◌, ◌*◌, ◌/◌, ◌%◌, ◌≤◌, ◌<◌, min, max, ◌≡◌, refl, Bool, true, false, ◌&&◌, List, ◌⊎◌, ltb, eqb, length, get_or}
+use Rattle.std.specs.Prelude.{ℕ, ◌+◌, ◌-◌, ◌*◌, ◌/◌, ◌%◌, ◌≤◌, ◌<◌, min, max, ◌≡◌, refl, Bool, true, false, ◌&&◌, List, ◌⊎◌, ltb, eqb, length, get_or, Some}
 use Rattle.std.proofs.Common.{sym, ◌∙◌, ap, subst, inl, inr, arith, mul-le-mul_right, mul-div_cancel, div-add-mod', ltb-true, le-ltb, ne_eqb}
-use Rattle.std.proofs.Math.Option.{some}
 use Rattle.common.specs.Compare.{less_or}
 use Rattle.table.specs.Table.{id_of, rows_fit}
 use Rattle.index.specs.KeyOrder.{slot_id, table_room}
@@ -23,7 +22,7 @@ searched_number rows slots b k = row_number (searched rows slots b k)
 
 -- a row that is what the search finds of an id, if it has that id
 abbrev pub Hint : List ℕ → List ℕ → Ids → ℕ → ℕ → Type 0
-Hint rows slots b k r = row_has_id (id_of rows) (indexed_rows rows slots b) r k ≡ true → some r ≡ searched rows slots b k
+Hint rows slots b k r = row_has_id (id_of rows) (indexed_rows rows slots b) r k ≡ true → Some r ≡ searched rows slots b k
 
 -- no row of a table is numbered 4294967295
 out_of_room : (rows slots : List ℕ) (b : Ids) (k : ℕ) → false ≡ row_has_id (id_of rows) (indexed_rows rows slots b) 4294967295 k
@@ -82,7 +81,7 @@ module _ (rows slots : List ℕ) (b : Ids) (k : ℕ) where
               ∙ ap (λ (z : ℕ). z / step) (sym far)
               ∙ mul-div_cancel r pos
 
-          go : (k < b.last) ⊎ (b.last ≤ k) → some r ≡ searched rows slots b k
+          go : (k < b.last) ⊎ (b.last ≤ k) → Some r ≡ searched rows slots b k
           go (inl l) = end_hint (end_even k b slots (slot_id (id_of rows) b.direct slots) n (r + 1) l from even (ap (λ (z : ℕ). z + 1) (sym place))) h
           go (inr l) = end_hint (let q = last_row l in omega (arith, two, q) ∙ end_all k b slots (slot_id (id_of rows) b.direct slots) n l) h
 

@@ -7,21 +7,17 @@
 
 ghost use Rattle.std.specs.Prelude.{◌≡◌, true, false, ◌&&◌, ◌+◌, ◌-◌, ◌*◌, ◌/◌, ◌%◌, ◌≤◌, ◌<◌, min, max, leb, eqb, length, get_or};
 ghost use Rattle.index.specs.Search.{first_row, searched, range_width};
-ghost use Rattle.index.specs.Answer.{told_found_row};
 ghost use Rattle.find_many.specs.Finds.{row_number, RowsTold};
 ghost use Rattle.find_many.specs.Hints.{indexed_rows, searched_number, Hint, DenseRow, EvenRow, start_near, StartsAt, NearRow, RisesByStep, Guided};
 ghost use Rattle.find_many.specs.Sweep.{Swept};
 
-use index::{FoundRow, Ids};
+use index::Ids;
 
 // A row's number, or 4294967295, which no row has.
-pub fn number_of(f: FoundRow) -> u32
-    ensures { result ≡ row_number (told_found_row f) }
+pub fn number_of(row: Option<u32>) -> u32
+    ensures { result ≡ row_number row }
 {
-    match f {
-        FoundRow::At(r) => r,
-        FoundRow::Nothing => 4294967295,
-    }
+    row.unwrap_or(4294967295)
 }
 
 // The row of an id by its number, as `index::get` finds it.
@@ -153,13 +149,6 @@ fn even_near(first: u32, step: u32, ids: &[u32], found: &mut [u32], from: usize,
     }
 }
 
-// By how much an id is above the first.
-fn far_of(first: u32, id: u32) -> u32
-    ensures { result ≡ id - first }
-{
-    if id < first { 0 } else { id - first }
-}
-
 // The lesser of two numbers.
 fn least(a: u64, b: usize) -> usize
     ensures { result ≡ min a b }
@@ -172,15 +161,8 @@ fn range_start(slots: &[u64], n: usize, b: Ids, id: u32) -> u32
     requires { (1 < n) × (n ≤ length slots.now) × (n ≤ 1073741824) }
     ensures { result ≡ start_near slots.now n b id }
 {
-    let q = common::within(index::range_of(far_of(b.first, id), b.shift), n - 2);
+    let q = index::range_of(id.saturating_sub(b.first), b.shift).min(n - 2);
     least(slots[q], n) as u32
-}
-
-// A row's number, and 1 for row 0.
-fn one_at_least(r: u32) -> usize
-    ensures { result ≡ max 1 r }
-{
-    if r == 0 { 1 } else { r as usize }
 }
 
 // How far an id that is so far above the first stands in its range.
@@ -207,7 +189,7 @@ fn near_row(slots: &[u64], n: usize, b: Ids, start: u32, id: u32) -> u32
     if n - 1 <= q {
         return 4294967295;
     }
-    let lo = one_at_least(start);
+    let lo = start.max(1) as usize;
     let hi = least(slots[q + 1], n - 1);
     if hi <= lo {
         return 4294967295;
@@ -339,7 +321,7 @@ fn get_parts(rows: &[u32], slots: &[u64], b: Ids, ids: &[u32], found: &mut [u32]
 {
     let mut i: usize = 0;
     while i < ids.len() {
-        let to = i + common::within(ids.len() - i, 128);
+        let to = i + (ids.len() - i).min(128);
         get_part(rows, slots, b, ids, found, i, to);
         i = to;
     }
