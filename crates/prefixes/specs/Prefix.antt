@@ -1,11 +1,10 @@
 -- Document 01, 'Units': the factor of a prefix by its name, computed; Rules.antt has the table. Assumes nothing.
-use Rattle.std.specs.Prelude.{ℕ, zero, suc, ◌+◌, ◌-◌, ◌≤◌, ◌<◌, ◌≡◌, refl, Bool, true, false, ◌&&◌, List, [], ◌∷◌, ◌⊎◌, T, leb, eqb, length, take, drop, get_or, Float}
-use Rattle.std.proofs.Common.{sym, ◌∙◌, ap, subst, arith, add-zero, zero-add, add-suc, suc-add, le_of_suc-le-suc, not-suc-le-zero, add-one, inl, inr, leb-true, eqb-true, drop-cons}
-use Rattle.std.proofs.Math.Decide.{dec_lt}
-use Rattle.std.specs.Float.Ieee.Fits.{and_l, and_r}
-use Rattle.std.specs.Float.{nan, binary64}
+use Rattle.std.specs.Prelude.{ℕ, zero, suc, ◌+◌, ◌≤◌, ◌<◌, ◌≡◌, refl, Bool, true, false, ◌&&◌, List, [], ◌∷◌, eqb, length, map, drop, get_or, Float}
+use Rattle.std.proofs.Common.{Bor, sym, ◌∙◌, ap, subst, arith, le_of_suc-le-suc, add-one, eqb-true, drop-cons}
+use Rattle.std.specs.Float.{binary64}
 use Rattle.std.specs.Float.Ieee.{of_bits, to_bits, size}
 use Rattle.common.specs.Pick.{pick}
+use Rattle.common.specs.Tests.{both}
 use Rattle.record.specs.Word.{same_bytes, is_word}
 use Rattle.common.specs.Bytes.{bytes}
 use Rattle.record.specs.FormRight.{same_is}
@@ -25,105 +24,87 @@ prefix_of t = get_or prefixes (place_in prefixes t) unity
 abbrev pub factor_of : List ℕ → ℕ
 factor_of t = near (ten_up (prefix_of t)) (ten_down (prefix_of t))
 
--- ---- the code's tables: all names in a row, where each begins, and the factors, 1.0 the last
--- the names of the prefixes one after another
-abbrev pub prefix_names : List ℕ
-prefix_names = bytes "EXAPETATERAGIGAMEGAKILOHECTODECADECICENTIMILLIMICRONANOPICOFEMTOATTO"
+-- ---- the code's table: in each row a name and a factor
+-- a row by what it holds: a name and a factor
+abbrev pub Row : Type 0
+Row = List ℕ × Float
 
--- where each prefix's name begins in `prefix_names`, and where the last ends
-abbrev pub prefix_starts : List ℕ
-prefix_starts = 0 ∷ 3 ∷ 7 ∷ 11 ∷ 15 ∷ 19 ∷ 23 ∷ 28 ∷ 32 ∷ 36 ∷ 41 ∷ 46 ∷ 51 ∷ 55 ∷ 59 ∷ 64 ∷ 68 ∷ []
-
--- the f64 of each prefix's power of ten, and 1.0
-abbrev pub factors : List Float
-factors =
-    of_bits binary64 4876203697187506176
-    ∷ of_bits binary64 4831355200913801216
-    ∷ of_bits binary64 4786511204640096256
-    ∷ of_bits binary64 4741671816366391296
-    ∷ of_bits binary64 4696837146684686336
-    ∷ of_bits binary64 4652007308841189376
-    ∷ of_bits binary64 4636737291354636288
-    ∷ of_bits binary64 4621819117588971520
-    ∷ of_bits binary64 4591870180066957722
-    ∷ of_bits binary64 4576918229304087675
-    ∷ of_bits binary64 4562254508917369340
-    ∷ of_bits binary64 4517329193108106637
-    ∷ of_bits binary64 4472406533629990549
-    ∷ of_bits binary64 4427486594234968593
-    ∷ of_bits binary64 4382569440205035030
-    ∷ of_bits binary64 4337655138388951980
-    ∷ of_bits binary64 4607182418800017408
+-- the rows, each factor by its pattern
+abbrev pub table : List Row
+table =
+    (bytes "EXA", of_bits binary64 4876203697187506176)
+    ∷ (bytes "PETA", of_bits binary64 4831355200913801216)
+    ∷ (bytes "TERA", of_bits binary64 4786511204640096256)
+    ∷ (bytes "GIGA", of_bits binary64 4741671816366391296)
+    ∷ (bytes "MEGA", of_bits binary64 4696837146684686336)
+    ∷ (bytes "KILO", of_bits binary64 4652007308841189376)
+    ∷ (bytes "HECTO", of_bits binary64 4636737291354636288)
+    ∷ (bytes "DECA", of_bits binary64 4621819117588971520)
+    ∷ (bytes "DECI", of_bits binary64 4591870180066957722)
+    ∷ (bytes "CENTI", of_bits binary64 4576918229304087675)
+    ∷ (bytes "MILLI", of_bits binary64 4562254508917369340)
+    ∷ (bytes "MICRO", of_bits binary64 4517329193108106637)
+    ∷ (bytes "NANO", of_bits binary64 4472406533629990549)
+    ∷ (bytes "PICO", of_bits binary64 4427486594234968593)
+    ∷ (bytes "FEMTO", of_bits binary64 4382569440205035030)
+    ∷ (bytes "ATTO", of_bits binary64 4337655138388951980)
     ∷ []
 
--- the rule of row i of the code's tables: its part of `prefix_names` is the prefix's name, and its factor is the nearest f64
-pub record Rule (i : ℕ) (p : Prefix) : Type 0 where
-  pub order : get_or prefix_starts i 0 ≤ get_or prefix_starts (suc i) 0
-  pub within : get_or prefix_starts (suc i) 0 ≤ 68
-  pub named : take (get_or prefix_starts (suc i) 0 - get_or prefix_starts i 0) (drop (get_or prefix_starts i 0) prefix_names) ≡ bytes p.name
-  pub factor : to_bits binary64 (get_or factors i nan) ≡ near (ten_up p) (ten_down p)
+-- what the code's rows hold: the text that each points to, and its factor
+abbrev pub rows_of : List (Bor (List ℕ) × Float) → List Row
+rows_of xs = map (λ (x : Bor (List ℕ) × Float). (x.0.now, x.1)) xs
 
--- whether the rule of a row holds, as a test: two comparisons of places, one of a name and one of a pattern
-abbrev keeps_rule : ℕ → Prefix → Bool
-keeps_rule i p =
-    leb (get_or prefix_starts i 0) (get_or prefix_starts (suc i) 0) && leb (get_or prefix_starts (suc i) 0) 68
-    && same_bytes (take (get_or prefix_starts (suc i) 0 - get_or prefix_starts i 0) (drop (get_or prefix_starts i 0) prefix_names)) (bytes p.name)
-    && eqb (to_bits binary64 (get_or factors i nan)) (near (ten_up p) (ten_down p))
+-- the code's rows hold what the table holds
+pub record Rows (xs : List (Bor (List ℕ) × Float)) : Type 0 where
+  pub same : rows_of xs ≡ table
 
--- the tests of the rules of all rows, counted from i
-abbrev keep_rules : ℕ → List Prefix → Bool
-keep_rules i [] = true
-keep_rules i (p ∷ ps) = keeps_rule i p && keep_rules (suc i) ps
+-- the rule of a row: its text is the prefix's name, and its factor is the nearest f64
+pub record Rule (r : Row) (p : Prefix) : Type 0 where
+  pub named : r.0 ≡ bytes p.name
+  pub factor : to_bits binary64 r.1 ≡ near (ten_up p) (ten_down p)
+
+-- whether the rule of a row holds, as a test: a comparison of a name and one of a pattern
+abbrev keeps_rule : Row → Prefix → Bool
+keeps_rule r p = same_bytes r.0 (bytes p.name) && eqb (to_bits binary64 r.1) (near (ten_up p) (ten_down p))
+
+-- the tests of the rules of all rows
+abbrev keep_rules : List Row → List Prefix → Bool
+keep_rules [] ps = true
+keep_rules (r ∷ rs) [] = false
+keep_rules (r ∷ rs) (p ∷ ps) = keeps_rule r p && keep_rules rs ps
 
 -- the test of the rule holds at all sixteen rows: antt computes it
-all_keep : T (keep_rules 0 prefixes)
-unfolding to_bits of_bits near near_units size same_bytes
-all_keep = tt
-
--- four tests that all hold, one by one
-all_four : (a b c d : Bool) → T (a && b && c && d) → (a ≡ true) × (b ≡ true) × (c ≡ true) × (d ≡ true)
-all_four true true true true h = (refl, refl, refl, refl)
-all_four true true true false h = absurd h
-all_four true true false d h = absurd h
-all_four true false c d h = absurd h
-all_four false b c d h = absurd h
+all_keep : keep_rules table prefixes ≡ true
+unfolding to_bits of_bits near near_units size
+all_keep = refl
 
 -- where the test of a row's rule holds, the rule does
-rule_of : (i : ℕ) (p : Prefix) → T (keeps_rule i p) → Rule i p
-rule_of i p h =
-    let (a, b, n, f) = all_four (leb (get_or prefix_starts i 0) (get_or prefix_starts (suc i) 0)) (leb (get_or prefix_starts (suc i) 0) 68)
-    (same_bytes (take (get_or prefix_starts (suc i) 0 - get_or prefix_starts i 0) (drop (get_or prefix_starts i 0) prefix_names)) (bytes p.name))
-    (eqb (to_bits binary64 (get_or factors i nan)) (near (ten_up p) (ten_down p))) h in
-    record { order = leb-true _ _ a; within = leb-true _ _ b; named = same_is _ _ n; factor = eqb-true _ _ f }
+rule_of : (r : Row) (p : Prefix) → keeps_rule r p ≡ true → Rule r p
+rule_of r p h =
+    let (n, f) = both (same_bytes r.0 (bytes p.name)) (eqb (to_bits binary64 r.1) (near (ten_up p) (ten_down p))) h in
+    record { named = same_is _ _ n; factor = eqb-true _ _ f }
 
--- where the tests of rows counted from i hold, the rule of the k-th of them does
-rule_from : (ps : List Prefix) (i : ℕ) → T (keep_rules i ps) → (k : ℕ) → k < length ps → Rule (i + k) (get_or ps k unity)
-rule_from [] i r k h = absurd (not-suc-le-zero h)
-rule_from (p ∷ ps) i r zero h = subst (λ (m : ℕ). Rule m p) (sym (add-zero i)) (rule_of i p (and_l (keeps_rule i p) (keep_rules (suc i) ps) r))
-rule_from (p ∷ ps) i r (suc k) h =
-    subst (λ (m : ℕ). Rule m (get_or ps k unity)) (suc-add i k ∙ sym (add-suc i k))
-    (rule_from ps (suc i) (and_r (keeps_rule i p) (keep_rules (suc i) ps) r) k (le_of_suc-le-suc h))
+-- where the tests of all rows hold, the rule at row k does
+rule_from : (rs : List Row) (ps : List Prefix) → keep_rules rs ps ≡ true → (k : ℕ) (d : Row) → k < length rs → Rule (get_or rs k d) (get_or ps k unity)
+rule_from [] ps h k d l = absurd (omega arith)
+rule_from (r ∷ rs) [] h k d l = let z : ◌≡◌ {A = ℕ} 0 1 = cc in absurd (omega arith)
+rule_from (r ∷ rs) (p ∷ ps) h zero d l = rule_of r p (both (keeps_rule r p) (keep_rules rs ps) h).0
+rule_from (r ∷ rs) (p ∷ ps) h (suc k) d l = rule_from rs ps (both (keeps_rule r p) (keep_rules rs ps) h).1 k d (le_of_suc-le-suc l)
 
--- the rule of the code's tables holds at row k
-pub rule_at : (k : ℕ) → k < 16 → Rule k (get_or prefixes k unity)
-rule_at k h = subst (λ (m : ℕ). Rule m (get_or prefixes k unity)) (zero-add k) (rule_from prefixes 0 all_keep k h)
+-- what the code's row k holds keeps the rule
+rule_at : (xs : List (Bor (List ℕ) × Float)) → rows_of xs ≡ table → (k : ℕ) (d : Bor (List ℕ) × Float) → k < 16 → Rule ((get_or xs k d).0.now, (get_or xs k d).1) (get_or prefixes k unity)
+rule_at xs e k d h =
+    subst (λ (r : Row). Rule r (get_or prefixes k unity))
+    (sym (ap (λ (rs : List Row). get_or rs k (d.0.now, d.1)) e) ∙ get_or_map (λ (x : Bor (List ℕ) × Float). (x.0.now, x.1)) xs k d)
+    (rule_from table prefixes all_keep k (d.0.now, d.1) h)
+  where
+    get_or_map : (f : Bor (List ℕ) × Float → Row) (xs : List (Bor (List ℕ) × Float)) (k : ℕ) (d : Bor (List ℕ) × Float) → get_or (map f xs) k (f d) ≡ f (get_or xs k d)
+    get_or_map f [] k d = refl
+    get_or_map f (x ∷ xs) zero d = refl
+    get_or_map f (x ∷ xs) (suc k) d = get_or_map f xs k d
 
--- no name ends in `prefix_names` before it begins, by rows as the code counts them
-pub order_at : (k : ℕ) → k < 16 → get_or prefix_starts k 0 ≤ get_or prefix_starts (k + 1) 0
-order_at k h = subst (λ (j : ℕ). get_or prefix_starts k 0 ≤ get_or prefix_starts j 0) (sym (add-one k)) (rule_at k h).order
-
--- each name ends inside `prefix_names`, by rows as the code counts them
-pub within_at : (k : ℕ) → k < 16 → get_or prefix_starts (k + 1) 0 ≤ 68
-within_at k h = subst (λ (j : ℕ). get_or prefix_starts j 0 ≤ 68) (sym (add-one k)) (rule_at k h).within
-
--- to compare with a part of the names is to compare with the prefix's name
-pub word_at : (t : List ℕ) (k : ℕ) → k < 16 → is_word t (take (get_or prefix_starts (k + 1) 0 - get_or prefix_starts k 0) (drop (get_or prefix_starts k 0) prefix_names)) ≡ is_word t (bytes (get_or prefixes k unity).name)
-word_at t k h =
-    subst (λ (j : ℕ). is_word t (take (get_or prefix_starts j 0 - get_or prefix_starts k 0) (drop (get_or prefix_starts k 0) prefix_names)) ≡ is_word t (bytes (get_or prefixes k unity).name)) (sym (add-one k))
-    (ap (is_word t) (rule_at k h).named)
-
--- the last factor is 1.0
-last_factor : to_bits binary64 (get_or factors 16 nan) ≡ near 1 1
+-- the factor of any other name is 1.0
+last_factor : to_bits binary64 (of_bits binary64 4607182418800017408) ≡ near 1 1
 unfolding to_bits of_bits near near_units size
 last_factor = refl
 
@@ -185,17 +166,24 @@ prefix_place_within t (p ∷ ps) = go (is_word t (bytes p.name)) (prefix_place_w
 pub place_most : (t : List ℕ) → place_in prefixes t ≤ 16
 place_most t = prefix_place_within t prefixes
 
--- the factor at row k is the f64 nearest to the power of ten of the prefix there; at row 16 it is 1.0
-pub factor_at : (k : ℕ) → k ≤ 16 → to_bits binary64 (get_or factors k nan) ≡ near (ten_up (get_or prefixes k unity)) (ten_down (get_or prefixes k unity))
-factor_at k h = go (eq_or k h)
-  where
-    eq_or : (k : ℕ) → k ≤ 16 → (k < 16) ⊎ (k ≡ 16)
-    eq_or k h = by (dec_lt k 16)
-      where
-        by : Dec (k < 16) → (k < 16) ⊎ (k ≡ 16)
-        by (yes l) = inl l
-        by (no l) = inr (omega arith)
+-- the factor of the prefix at the place that is sought
+factor_at : (t : List ℕ) (k : ℕ) → k ≡ place_in prefixes t → near (ten_up (get_or prefixes k unity)) (ten_down (get_or prefixes k unity)) ≡ factor_of t
+factor_at t k e = ap (λ (j : ℕ). near (ten_up (get_or prefixes j unity)) (ten_down (get_or prefixes j unity))) e
 
-    go : (k < 16) ⊎ (k ≡ 16) → to_bits binary64 (get_or factors k nan) ≡ near (ten_up (get_or prefixes k unity)) (ten_down (get_or prefixes k unity))
-    go (inl l) = (rule_at k l).factor
-    go (inr e) = subst (λ (m : ℕ). to_bits binary64 (get_or factors m nan) ≡ near (ten_up (get_or prefixes m unity)) (ten_down (get_or prefixes m unity))) (sym e) last_factor
+-- where no name fits, the factor is 1.0
+pub none_found : (t : List ℕ) (k : ℕ) → 16 ≤ k → Searching t k → to_bits binary64 (of_bits binary64 4607182418800017408) ≡ factor_of t
+none_found t k h s = last_factor ∙ factor_at t 16 (search_ends t k h s)
+
+-- at a row of the code's table
+module _ (xs : List (Bor (List ℕ) × Float)) (d : Bor (List ℕ) × Float) (t : List ℕ) (k : ℕ) (h : k < 16) where
+  -- a name that fits has the factor that is sought
+  pub row_found : is_word t (get_or xs k d).0.now ≡ true → Searching t k → Rows xs → to_bits binary64 (get_or xs k d).1 ≡ factor_of t
+  row_found e s q =
+      let r = rule_at xs q.same k d h in
+      r.factor ∙ factor_at t k (search_finds t k h (ap (is_word t) (sym r.named) ∙ e) s)
+
+  -- where a name does not fit, the search goes on
+  pub row_passed : is_word t (get_or xs k d).0.now ≡ false → Searching t k → Rows xs → Searching t (k + 1)
+  row_passed e s q =
+      let r = rule_at xs q.same k d h in
+      search_goes t k h (ap (is_word t) (sym r.named) ∙ e) s

@@ -28,7 +28,6 @@ distinct (p ∷ ps) = absent (bytes p.name) ps && distinct ps
 
 -- the names of the sixteen prefixes are distinct
 all_distinct : T (distinct prefixes)
-unfolding same_bytes
 all_distinct = tt
 
 -- where no row is named w, the name at row j is another

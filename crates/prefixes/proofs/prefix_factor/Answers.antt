@@ -1,31 +1,23 @@
-use Prim.Native.Nat.{ℕ, ◌≤◌}
-use mathlib.Core.Path.{◌≡◌, subst}
+use mathlib.Core.Path.{refl, sym, ◌∙◌}
 use native.Mathlib.Omega.{arith}
-use lib.ListN.{get_or}
-use lib.Ieee.{binary64, to_bits, nan}
-use Rattle.nearest.specs.Near.{near}
-use Rattle.prefixes.specs.Prefix.{place_most, factor_at, factors}
-use Rattle.prefixes.specs.Rules.{ten_up, ten_down, prefixes, unity}
+use Rattle.prefixes.specs.Prefix.{none_found, row_found, row_passed}
 use Rattle.prefixes.proofs.prefix_factor.Goals as goal
 
--- `prefixes::prefix_factor` meets its contract: the table's rule at the row that was found. Assumes nothing.
+-- `prefixes::prefix_factor` meets its contract: the rows before have other names, and each row keeps its rule. Assumes nothing.
 
-pub offset_bounds-prefix_row : goal.offset_bounds-prefix_row
-offset_bounds-prefix_row c =
-    let e = c.prefix_row.ensures in
-    let m = place_most c.args.name.now in
-    omega arith
+pub loop-word-init : goal.loop-word-init
+loop-word-init c = record { so_far = (omega arith, omega arith); rows = record { same = refl } }
 
-pub bounds-prefix_row : goal.bounds-prefix_row
-bounds-prefix_row c =
-    let e = c.prefix_row.ensures in
-    let m = place_most c.args.name.now in
-    omega arith
+pub returns-then-is_word : goal.returns-then-is_word
+returns-then-is_word c =
+    row_found _ _ c.args.name.now c.loop-word.word-index c.loop-word-test.true (sym c.is_word.ensures ∙ c.if-is_word.true) c.loop-word.invariant.so_far c.loop-word.invariant.rows
+
+pub loop-word-preserved : goal.loop-word-preserved
+loop-word-preserved c =
+    record {
+      so_far = row_passed _ _ c.args.name.now c.loop-word.word-index c.loop-word-test.true (sym c.is_word.ensures ∙ c.if-is_word.false) c.loop-word.invariant.so_far c.loop-word.invariant.rows;
+      rows = c.loop-word.invariant.rows;
+    }
 
 pub returns : goal.returns
-returns c =
-    let k = c.prefix_row.result in
-    let e = c.prefix_row.ensures in
-    let m = place_most c.args.name.now in
-    let l : k ≤ 16 = omega arith in
-    subst (λ (j : ℕ). to_bits binary64 (get_or factors k nan) ≡ near (ten_up (get_or prefixes j unity)) (ten_down (get_or prefixes j unity))) e (factor_at k l)
+returns c = none_found c.args.name.now c.loop-word.word-index (omega arith) c.loop-word.invariant.so_far
