@@ -91,12 +91,16 @@ rule_from (r ∷ rs) [] h k d l = let z : ◌≡◌ {A = ℕ} 0 1 = cc in absurd
 rule_from (r ∷ rs) (p ∷ ps) h zero d l = rule_of r p (both (keeps_rule r p) (keep_rules rs ps) h).0
 rule_from (r ∷ rs) (p ∷ ps) h (suc k) d l = rule_from rs ps (both (keeps_rule r p) (keep_rules rs ps) h).1 k d (le_of_suc-le-suc l)
 
+-- the rule of the code's table holds at row k
+pub rule_at : (k : ℕ) (d : Row) → k < 16 → Rule (get_or table k d) (get_or prefixes k unity)
+rule_at k d h = rule_from table prefixes all_keep k d h
+
 -- what the code's row k holds keeps the rule
-rule_at : (xs : List (Bor (List ℕ) × Float)) → rows_of xs ≡ table → (k : ℕ) (d : Bor (List ℕ) × Float) → k < 16 → Rule ((get_or xs k d).0.now, (get_or xs k d).1) (get_or prefixes k unity)
-rule_at xs e k d h =
+rule_here : (xs : List (Bor (List ℕ) × Float)) → rows_of xs ≡ table → (k : ℕ) (d : Bor (List ℕ) × Float) → k < 16 → Rule ((get_or xs k d).0.now, (get_or xs k d).1) (get_or prefixes k unity)
+rule_here xs e k d h =
     subst (λ (r : Row). Rule r (get_or prefixes k unity))
     (sym (ap (λ (rs : List Row). get_or rs k (d.0.now, d.1)) e) ∙ get_or_map (λ (x : Bor (List ℕ) × Float). (x.0.now, x.1)) xs k d)
-    (rule_from table prefixes all_keep k (d.0.now, d.1) h)
+    (rule_at k (d.0.now, d.1) h)
   where
     get_or_map : (f : Bor (List ℕ) × Float → Row) (xs : List (Bor (List ℕ) × Float)) (k : ℕ) (d : Bor (List ℕ) × Float) → get_or (map f xs) k (f d) ≡ f (get_or xs k d)
     get_or_map f [] k d = refl
@@ -104,7 +108,7 @@ rule_at xs e k d h =
     get_or_map f (x ∷ xs) (suc k) d = get_or_map f xs k d
 
 -- the factor of any other name is 1.0
-last_factor : to_bits binary64 (of_bits binary64 4607182418800017408) ≡ near 1 1
+pub last_factor : to_bits binary64 (of_bits binary64 4607182418800017408) ≡ near 1 1
 unfolding to_bits of_bits near near_units size
 last_factor = refl
 
@@ -166,24 +170,28 @@ prefix_place_within t (p ∷ ps) = go (is_word t (bytes p.name)) (prefix_place_w
 pub place_most : (t : List ℕ) → place_in prefixes t ≤ 16
 place_most t = prefix_place_within t prefixes
 
+-- the factor at row k is the f64 nearest to the power of ten of the prefix there
+pub factor_at : (k : ℕ) (d : Row) → k < 16 → to_bits binary64 (get_or table k d).1 ≡ near (ten_up (get_or prefixes k unity)) (ten_down (get_or prefixes k unity))
+factor_at k d h = (rule_at k d h).factor
+
 -- the factor of the prefix at the place that is sought
-factor_at : (t : List ℕ) (k : ℕ) → k ≡ place_in prefixes t → near (ten_up (get_or prefixes k unity)) (ten_down (get_or prefixes k unity)) ≡ factor_of t
-factor_at t k e = ap (λ (j : ℕ). near (ten_up (get_or prefixes j unity)) (ten_down (get_or prefixes j unity))) e
+factor_found : (t : List ℕ) (k : ℕ) → k ≡ place_in prefixes t → near (ten_up (get_or prefixes k unity)) (ten_down (get_or prefixes k unity)) ≡ factor_of t
+factor_found t k e = ap (λ (j : ℕ). near (ten_up (get_or prefixes j unity)) (ten_down (get_or prefixes j unity))) e
 
 -- where no name fits, the factor is 1.0
 pub none_found : (t : List ℕ) (k : ℕ) → 16 ≤ k → Searching t k → to_bits binary64 (of_bits binary64 4607182418800017408) ≡ factor_of t
-none_found t k h s = last_factor ∙ factor_at t 16 (search_ends t k h s)
+none_found t k h s = last_factor ∙ factor_found t 16 (search_ends t k h s)
 
 -- at a row of the code's table
 module _ (xs : List (Bor (List ℕ) × Float)) (d : Bor (List ℕ) × Float) (t : List ℕ) (k : ℕ) (h : k < 16) where
   -- a name that fits has the factor that is sought
   pub row_found : is_word t (get_or xs k d).0.now ≡ true → Searching t k → Rows xs → to_bits binary64 (get_or xs k d).1 ≡ factor_of t
   row_found e s q =
-      let r = rule_at xs q.same k d h in
-      r.factor ∙ factor_at t k (search_finds t k h (ap (is_word t) (sym r.named) ∙ e) s)
+      let r = rule_here xs q.same k d h in
+      r.factor ∙ factor_found t k (search_finds t k h (ap (is_word t) (sym r.named) ∙ e) s)
 
   -- where a name does not fit, the search goes on
   pub row_passed : is_word t (get_or xs k d).0.now ≡ false → Searching t k → Rows xs → Searching t (k + 1)
   row_passed e s q =
-      let r = rule_at xs q.same k d h in
+      let r = rule_here xs q.same k d h in
       search_goes t k h (ap (is_word t) (sym r.named) ∙ e) s
