@@ -1,6 +1,6 @@
 -- "with a place from 0 to the input's length" (demand 1): every place that a statement or the whole reading answers, in a row
 -- or in a refusal, lies from 0 to the file's length. Assumes nothing.
-use Rattle.std.specs.Prelude.{ℕ, ◌+◌, ◌≤◌, refl, List, [], ◌∷◌, length, drop}
+use Rattle.std.specs.Prelude.{ℕ, ◌+◌, ◌≤◌, refl, List, [], ◌∷◌, length, drop, Result, Ok, Err}
 use Rattle.std.proofs.Math.Option.{Option}
 use Rattle.std.proofs.Common.{arith}
 use Rattle.error.specs.Refusal.{Told, good, bad}
@@ -14,7 +14,9 @@ use Rattle.record.specs.Head.{data_head, header_head}
 use Rattle.record.specs.declared.Word.{Word}
 use Rattle.record.specs.declared.Word.TheVariants.{Header, Data, EndSection, EndFile, Other}
 use Rattle.record.specs.declared.Head.{Head}
-use Rattle.record.specs.declared.Head.TheVariants.{Bad, Complex, Simple}
+use Rattle.record.specs.declared.Head.TheVariants.{Complex, Simple}
+use Rattle.record.specs.declared.Named.{Named}
+use Rattle.error.specs.declared.Reason.{Reason}
 use Rattle.statement.specs.Rows.{Row, HeaderRow, Stmt, reading_ends, statement_refused, section_now, header_statement, data_statement, bound, mapped}
 use Rattle.statement.specs.Row.{closing_sought, record_by, record_of, header_by, header_of}
 use Rattle.statement.specs.Statement.{header_stated, recorded, in_section, worded, ended, begun, after_trivia, statement}
@@ -65,28 +67,27 @@ module _ (s : List ℕ) where
   argued_fits F f h (fault n r) = place_within s r
 
   -- the places of a header row, read from the head of its record, lie in the file, or its refusal's place does
-  header_by_lem : (b : Option (List ℕ)) (ys : List ℕ) (h : Head) → ToldFits (length s) (HeaderFits (length s)) (header_by b s ys h)
-  header_by_lem b ys (Bad why) = place_within s ys
-  header_by_lem b ys (Complex i o) = place_within s ys
-  header_by_lem b ys (Simple i a z o) =
+  header_by_lem : (b : Option (List ℕ)) (ys : List ℕ) (h : Result Named Reason) → ToldFits (length s) (HeaderFits (length s)) (header_by b s ys h)
+  header_by_lem b ys (Err why) = place_within s ys
+  header_by_lem b ys (Ok n) =
       argued_fits (HeaderFits (length s)) _
       (λ q k.
       record {
-        key_start = place_within s (drop a ys);
-        key_end = place_within s (drop z ys);
-        arg_start = place_within s (drop (o + 1) ys);
+        key_start = place_within s (drop n.start ys);
+        key_end = place_within s (drop n.end ys);
+        arg_start = place_within s (drop (n.opening + 1) ys);
         arg_end = k;
       })
-      (closing_sought b (drop o ys))
+      (closing_sought b (drop n.opening ys))
 
   -- the places of a data row, read from the head of its record, lie in the file, or its refusal's place does
-  record_by_lem : (b : Option (List ℕ)) (ys : List ℕ) (h : Head) → ToldFits (length s) (RecordFits (length s)) (record_by b s ys h)
-  record_by_lem b ys (Bad why) = place_within s ys
-  record_by_lem b ys (Complex i o) =
+  record_by_lem : (b : Option (List ℕ)) (ys : List ℕ) (h : Result Head Reason) → ToldFits (length s) (RecordFits (length s)) (record_by b s ys h)
+  record_by_lem b ys (Err why) = place_within s ys
+  record_by_lem b ys (Ok (Complex i o)) =
       argued_fits (RecordFits (length s)) _
       (λ q k. record { key_start = omega arith; key_end = omega arith; arg_start = place_within s (drop (o + 1) ys); arg_end = k })
       (closing_sought b (drop o ys))
-  record_by_lem b ys (Simple i a z o) =
+  record_by_lem b ys (Ok (Simple i a z o)) =
       argued_fits (RecordFits (length s)) _
       (λ q k.
       record {

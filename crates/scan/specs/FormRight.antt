@@ -80,7 +80,6 @@ module _ (s : List ℕ) (lent : RowsPerKind) where
 
 -- a list whose first bytes are the same as w begins with w
 begins_is : (w s : List ℕ) → same_bytes (take (length w) s) w ≡ true → (r : List ℕ) × (s ≡ w ++ r)
-unfolding same_bytes
 begins_is [] s h = (s, refl)
 begins_is (c ∷ w) [] h = clash (cc)
 begins_is (c ∷ w) (d ∷ s) h = go (eqb d c) refl (begins_is w s)
@@ -92,7 +91,6 @@ begins_is (c ∷ w) (d ∷ s) h = go (eqb d c) refl (begins_is w s)
 
 -- "The marker is `ISO-10303-21` after [..] whitespace only": a file that begins so passes the test
 marker_only : (w r : List ℕ) → All white w → same_bytes (take 12 (past white (w ++ (marker ++ r)))) marker ≡ true
-unfolding same_bytes
 marker_only w r a = rw (past_only white w (marker ++ r) (record { all = a; over = first_other white 73 _ refl })) refl
 
 marker_is : (s : List ℕ) → same_bytes (take 12 (past white s)) marker ≡ true → (w r : List ℕ) × (s ≡ w ++ (marker ++ r)) × All white w
@@ -103,7 +101,6 @@ marker_is s h =
 
 -- "The marker is `ISO-10303-21` after an optional EF BB BF and whitespace only": what is marked by the rules passes the test
 pub marked_only : {s : List ℕ} → Marked s → marked s ≡ true
-unfolding same_bytes
 marked_only (Marked.plain [] r a) = marker_only [] r a
 marked_only (Marked.plain (c ∷ w) r a) =
     rw (ne_eqb c 239 (λ e. let f : white 239 ≡ true = rw e at a.0 in clash (cc))) (marker_only (c ∷ w) r a)
@@ -111,7 +108,6 @@ marked_only (Marked.mark w r a) = marker_only w r a
 
 -- a file that passes the test for the marker is marked by the rules
 pub marked_is : (s : List ℕ) → marked s ≡ true → Marked s
-unfolding same_bytes
 marked_is s h = go (same_bytes (take 3 s) byte_order_mark) refl
   where
     go : (t : Bool) → same_bytes (take 3 s) byte_order_mark ≡ t → Marked s

@@ -1,6 +1,6 @@
 -- A file whose data records are all tidy (statement/specs/Tidy): the deciding pass finds out whether it is one, and the writing pass then
 -- reads each record by its first `;`. No contract of a public function cites these. Assumes nothing.
-use Rattle.std.specs.Prelude.{ℕ, ◌≡◌, Bool, true, ◌&&◌, List, drop}
+use Rattle.std.specs.Prelude.{ℕ, ◌≡◌, Bool, true, ◌&&◌, List, drop, Result, Ok, Err}
 use Rattle.std.proofs.Common.{sym, ◌∙◌, ap}
 use Rattle.common.specs.Compare.{clash}
 use Rattle.common.specs.Tests.{both}
@@ -10,9 +10,8 @@ use Rattle.statement.specs.Statement.{statement}
 use Rattle.statement.specs.Tidy.{tidy}
 use Rattle.statement.specs.declared.Section.{Section}
 use Rattle.statement.specs.declared.Section.TheVariants.{Outside, InHeader, InData}
-use Rattle.scan.specs.ScanMemory.{Counts, counts}
-use Rattle.scan.specs.declared.Passed.{Passed}
-use Rattle.scan.specs.declared.Passed.TheVariants.{Counted, Stopped}
+use Rattle.error.specs.declared.Fault.{Fault}
+use Rattle.scan.specs.ScanMemory.{Counts}
 
 -- from the rest xs on, in a section, nothing is refused and each data record is tidy, up to where the reading ends
 pub data Neat (s : List ℕ) : Section → List ℕ → Type 0 where
@@ -23,14 +22,14 @@ pub data Neat (s : List ℕ) : Section → List ℕ → Type 0 where
       → Neat s sec xs
 
 -- what a pass over the file tells: its counts, or a refusal
-abbrev pub told_passed : Passed → Told Counts
-told_passed (Counted h r m b) = good (counts h r m)
-told_passed (Stopped f) = bad (told f)
+abbrev pub told_passed : Result (Counts × Bool) Fault → Told Counts
+told_passed (Ok (c, b)) = good c
+told_passed (Err f) = bad (told f)
 
 -- where a pass tells that all data records were tidy, the file is neat
-abbrev pub NeatTold : List ℕ → Passed → Type 0
-NeatTold s (Counted h r m b) = b ≡ true → Neat s Outside s
-NeatTold s (Stopped f) = Unit {0}
+abbrev pub NeatTold : List ℕ → Result (Counts × Bool) Fault → Type 0
+NeatTold s (Ok (c, b)) = b ≡ true → Neat s Outside s
+NeatTold s (Err f) = Unit {0}
 
 -- the pass at the place i: where all was tidy so far, the whole file is neat if what is left is; and what is left is, where that was known
 pub record Tidying (s : List ℕ) (known all : Bool) (i : ℕ) (sec : Section) : Type 0 where

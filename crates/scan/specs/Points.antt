@@ -2,7 +2,7 @@
 -- and end a `(`, balanced bytes and a `)`. Assumes nothing.
 use Rattle.std.specs.Prelude.{ℕ, ◌≤◌, ◌<◌, ◌≡◌, refl, List, [], ◌∷◌, length, drop}
 use Rattle.std.proofs.Common.{ap, arith, length-append, length-drop}
-use Rattle.error.specs.Refusal.{Refusal, refusal, Told, good, bad}
+use Rattle.error.specs.Refusal.{Refusal, refusal, Told, good, bad, told_reason}
 use Rattle.lex.specs.Byte.{place}
 use Rattle.lex.specs.Grammar.{Begins, OpensComment, Led, RecordRuns, Closes, Deep, OpenText, OpenRemark}
 use Rattle.statement.specs.Rows.{Row, HeaderRow, Stmt, reading_ends, statement_refused, section_now, header_statement, data_statement}
@@ -67,12 +67,12 @@ argued_points {t} u (ArguedTo.unclosed {d} e h) = let m : Deep d t [] = rw e h i
 module _ {s xs ys body t : List ℕ} (u : Rest s xs) (d : Record xs ys body t) where
   -- a refusal of a header record points at what its number names
   header_points : {q : Refusal} → HeaderRecordForm s ys body (bad q) → Pointed s q
-  header_points (HeaderRecordForm.bad_record_form {why} h) = pointed 7 why (rest_of u (record_rest d).0) (StandsAtRefusal.bad_record_form u d)
+  header_points (HeaderRecordForm.bad_record_form {why} h) = pointed 7 (told_reason why) (rest_of u (record_rest d).0) (StandsAtRefusal.bad_record_form u d)
   header_points (HeaderRecordForm.named_refused h o g) = argued_points (rest_of (rest_of u (record_rest d).0) (after_rest o)) g
 
   -- a refusal of a data record points at what its number names
   data_points : {q : Refusal} → DataForm s ys body (bad q) → Pointed s q
-  data_points (DataForm.bad_record_form {why} h) = pointed 7 why (rest_of u (record_rest d).0) (StandsAtRefusal.bad_record_form u d)
+  data_points (DataForm.bad_record_form {why} h) = pointed 7 (told_reason why) (rest_of u (record_rest d).0) (StandsAtRefusal.bad_record_form u d)
   data_points (DataForm.complex_refused h o g) = argued_points (rest_of (rest_of u (record_rest d).0) (after_rest o)) g
   data_points (DataForm.simple_refused h o g) = argued_points (rest_of (rest_of u (record_rest d).0) (after_rest o)) g
 

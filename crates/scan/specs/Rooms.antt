@@ -6,7 +6,7 @@ use Rattle.error.specs.Refusal.{refusal, Told, good, bad}
 use Rattle.lex.specs.Search.{trivia, record_end, closing}
 use Rattle.common.specs.Walk.{walk}
 use Rattle.record.specs.Text.{past, number_from, keyword, trail}
-use Rattle.record.specs.Word.{same_bytes, word_of}
+use Rattle.record.specs.Word.{word_of}
 use Rattle.record.specs.Head.{data_head}
 use Rattle.common.specs.Bytes.{bytes}
 use Rattle.statement.specs.Rows.{Row, row, HeaderRow, header_kind, data_kind, mapped}
@@ -95,10 +95,10 @@ large_id = bytes "ISO-10303-21;DATA;#4294967295=A();"
 
 -- a file with one record needs one row and one id slot, however large its id
 pub large_id_lem : scan_of large_id 0 1 ≡ good (table [] (row 4294967295 30 31 32 32 0 ∷ []))
-unfolding scan_of read_from statement trivia record_end closing walk past number_from keyword trail same_bytes word_of data_head record_of
+unfolding scan_of read_from statement trivia record_end closing walk past number_from keyword trail word_of data_head record_of
 large_id_lem = refl
 
 -- a file with one record and no row lent is 8 at the record's start
 pub large_id_full : scan_of large_id 0 0 ≡ bad (refusal 8 0 18)
-unfolding scan_of read_from statement trivia record_end closing walk past number_from keyword trail same_bytes word_of data_head record_of
+unfolding scan_of read_from statement trivia record_end closing walk past number_from keyword trail word_of data_head record_of
 large_id_full = refl

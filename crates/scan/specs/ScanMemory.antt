@@ -2,12 +2,11 @@
 -- Assumes nothing.
 -- Definitions to be believed: no law, and nothing computed that no theorem ties (docs/BELIEVE.md).
 use Rattle.std.specs.Prelude.{ℕ, min, List, length}
-use Rattle.error.specs.Refusal.{Told, good, bad, told}
+use Rattle.error.specs.Refusal.{Told, good, bad}
 use Rattle.table.specs.Table.{rows_fit, headers_fit, rows_laid, headers_laid}
 use Rattle.scan.specs.Records.{Table, largest}
 use Rattle.scan.specs.File.{scan_of}
-use Rattle.scan.specs.declared.Scanned.{Scanned}
-use Rattle.scan.specs.declared.Scanned.TheVariants.{Rows, Refused}
+pub use Rattle.scan.specs.declared.Counts.{Counts}
 
 -- how many header rows are lent
 abbrev pub header_room : List ℕ → ℕ
@@ -39,12 +38,6 @@ rows_after (bad q) old = old
 abbrev pub scan_lent : List ℕ → List ℕ → List ℕ → ℕ → Told Table
 scan_lent s headers rows slots = scan_of s (header_room headers) (data_room rows slots)
 
--- an answer's values: the counts of both kinds of row, and the largest id
-pub record Counts : Type 0 where
-  pub headers : ℕ
-  pub records : ℕ
-  pub max : ℕ
-
 -- an answer's values from the counts of both kinds of row and the largest id
 abbrev pub counts : ℕ → ℕ → ℕ → Counts
 counts h r m = record { headers = h; records = r; max = m }
@@ -52,8 +45,3 @@ counts h r m = record { headers = h; records = r; max = m }
 -- the counts of a table's rows, and their largest id
 abbrev pub counts_of : Table → Counts
 counts_of t = counts (length t.headers) (length t.records) (largest t.records)
-
--- what the code's answer to a scan says: counts and the largest id, or a refusal
-abbrev pub told_scan : Scanned → Told Counts
-told_scan (Rows h r m) = good (counts h r m)
-told_scan (Refused f) = bad (told f)

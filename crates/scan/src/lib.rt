@@ -7,6 +7,7 @@
 ghost use Rattle.std.specs.Prelude.{◌≡◌, true, false, ◌+◌, ◌≤◌, ◌<◌, min, max, length, take, drop};
 ghost use Rattle.common.specs.Pick.{pick};
 ghost use Rattle.lex.specs.Byte.{white};
+ghost use Rattle.error.specs.Refusal.{told_result};
 ghost use Rattle.record.specs.Text.{past};
 ghost use Rattle.record.specs.Word.{same_bytes, marker};
 ghost use Rattle.statement.specs.Rows.{mapped, told_row, header_row_of};
@@ -15,44 +16,21 @@ ghost use Rattle.statement.specs.Tidy.{tidy};
 ghost use Rattle.statement.specs.declared.Section.TheVariants.{Outside, InData};
 ghost use Rattle.scan.specs.File.{marked, reading_of};
 ghost use Rattle.table.specs.Table.{rows_fit, headers_fit, row_put, header_put};
-ghost use Rattle.scan.specs.ScanMemory.{header_room, data_room, headers_of, records_of, told_scan, counts_of, headers_after, rows_after, scan_lent};
+ghost use Rattle.scan.specs.ScanMemory.{header_room, data_room, headers_of, records_of, counts_of, headers_after, rows_after, scan_lent};
 ghost use Rattle.scan.specs.Laws.{PassWrites};
 ghost use Rattle.scan.specs.Neat.{Neat, told_passed, NeatTold};
 ghost use Rattle.scan.specs.TidyRun.{RecordsRan};
 ghost use Rattle.scan.specs.Fits.{HeaderFits, RecordFits};
 
-use common::greater;
 use error::Fault;
-use statement::{HeaderSpan, RecordSpan, Said, Section, Tidied};
+use statement::{HeaderSpan, RecordSpan, Said, Section};
 
-// How many header rows and data rows there are, and the largest id; or why there are none.
-#[derive(Clone, Copy)]
-pub enum Scanned {
-    Rows {
-        headers: usize,
-        records: usize,
-        max: u32,
-    },
-    Refused(Fault),
-}
-
-// What a pass finds: how many header rows and data rows there are, the largest id, and whether every data record is tidy; or why there are
-// none.
-#[derive(Clone, Copy)]
-enum Passed {
-    Counted(usize, usize, u32, bool),
-    Stopped(Fault),
-}
-
-// Whether a text begins with these bytes.
-fn starts_with(t: &[u8], w: &[u8]) -> bool
-    ensures { result ≡ same_bytes (take (length w.now) t.now) w.now }
-{
-    let n = w.len();
-    if t.len() < n {
-        return false;
-    }
-    record::same_bytes(&t[..n], w)
+// How many header rows and data rows there are, and the largest id.
+#[derive(Clone, Copy, PartialEq, Eq)]
+pub struct Counts {
+    pub headers: usize,
+    pub records: usize,
+    pub max: u32,
 }
 
 // Whether a text begins with the marker, after whitespace.
@@ -60,20 +38,17 @@ fn is_marker(t: &[u8]) -> bool
     ensures { result ≡ same_bytes (take 12 (past white t.now)) marker }
 {
     let a = record::leading_space(t);
-    starts_with(&t[a..], b"ISO-10303-21")
+    t[a..].starts_with(b"ISO-10303-21")
 }
 
 // Whether the file begins with the marker, after a byte-order mark and whitespace.
 fn is_marked(s: &[u8]) -> bool
     ensures { result ≡ marked s.now }
 {
-    if s.len() < 3 {
-        return is_marker(s);
+    match s.strip_prefix(b"\xEF\xBB\xBF") {
+        Some(rest) => is_marker(rest),
+        None => is_marker(s),
     }
-    if starts_with(s, b"\xEF\xBB\xBF") {
-        return is_marker(&s[3..]);
-    }
-    is_marker(s)
 }
 
 // Puts a header row as row k, where the pass writes, and answers the next row's number.
@@ -100,19 +75,9 @@ fn put_record(out: &mut [u32], k: usize, span: RecordSpan, write: bool)
     table::put_row(out, k, span);
 }
 
-fn rows_found(headers: usize, records: usize, max: u32) -> Scanned
-    ensures { result ≡ Scanned.Rows headers records max }
-{
-    Scanned::Rows {
-        headers,
-        records,
-        max,
-    }
-}
-
 // Where a run of records ended: the place, how many rows there are, and the largest id.
 #[derive(Clone, Copy)]
-pub struct RunEnd {
+struct RunEnd {
     pub place: usize,
     pub count: usize,
     pub max: u32,
@@ -136,12 +101,12 @@ fn run(
     let mut count = stored;
     let mut max = largest;
     while known & (count < room) {
-        let Tidied::Tidy(span, _, next) = statement::tidy_record(s, place) else {
+        let Some((span, _, next)) = statement::tidy_record(s, place) else {
             return RunEnd { place, count, max };
         };
         put_record(rows, count, span, true);
         count += 1;
-        max = greater(max, span.id);
+        max = max.max(span.id);
         place = next;
     }
     RunEnd { place, count, max }
@@ -151,10 +116,10 @@ fn run(
 fn data_room(numbers: usize, slots: usize) -> usize
     ensures { result ≡ min (rows_fit numbers) slots }
 {
-    common::within(table::rows_fit(numbers), slots)
+    table::rows_fit(numbers).min(slots)
 }
 
-// Reads the file in order: counts, and where `write` is set stores each row. What is stored before a refusal stays, so
+// Reads the file in order: counts, tells whether every data record is tidy, and where `write` is set stores each row. What is stored before a refusal stays, so
 // the scan writes only where an earlier pass has found none. Where every data record is known to be tidy nothing of those that follow
 // the first of a section is tested again.
 fn pass(
@@ -164,7 +129,7 @@ fn pass(
     slots: usize,
     write: bool,
     known: bool,
-) -> Passed
+) -> Result<(Counts, bool), Fault>
     requires { (length s.now ≤ 4294967295) × (known ≡ true → write ≡ true) × (known ≡ true → Neat s.now Outside s.now) }
     ensures result_value { told_passed result ≡ mapped counts_of (reading_of s.now (header_room headers.old) (data_room rows.old slots)) }
     ensures pass_writes { PassWrites write (reading_of s.now (header_room headers.old) (data_room rows.old slots)) headers_of headers.old headers.new }
@@ -179,19 +144,24 @@ fn pass(
     let mut max: u32 = 0;
     let mut all = true;
     loop {
-        let n = statement::noted_statement(s, i, section);
-        let said = n.said;
+        let n = statement::noted_statement(s, i, section)?;
         all = all & n.tidy;
-        match said {
-            Said::Ends => return Passed::Counted(h, r, max, all),
-            Said::Refuses(f) => return Passed::Stopped(f),
+        match n.said {
+            Said::Ends => {
+                let counts = Counts {
+                    headers: h,
+                    records: r,
+                    max,
+                };
+                return Ok((counts, all));
+            }
             Said::Moves(to, next) => {
                 section = to;
                 i = next;
             }
             Said::Heads(span, start, next) => {
                 if table::headers_fit(headers.len()) <= h {
-                    return Passed::Stopped(Fault::NoRow(start));
+                    return Err(Fault::NoRow(start));
                 }
                 h = put_header(headers, h, span, write);
                 section = Section::InHeader;
@@ -199,11 +169,11 @@ fn pass(
             }
             Said::Records(span, start, next) => {
                 if room <= r {
-                    return Passed::Stopped(Fault::NoRow(start));
+                    return Err(Fault::NoRow(start));
                 }
                 put_record(rows, r, span, write);
                 section = Section::InData;
-                let t = run(s, rows, room, next, r + 1, greater(max, span.id), known);
+                let t = run(s, rows, room, next, r + 1, max.max(span.id), known);
                 r = t.count;
                 max = t.max;
                 i = t.place;
@@ -214,22 +184,23 @@ fn pass(
 
 // Scans the file into lent rows: header rows of four numbers, data rows of six, and so many id slots, one a record. 8 where
 // the rows of a kind, or the id slots, are used up. A refusal changes nothing; rows beyond the answer's keep their numbers.
-pub fn scan(file: &[u8], headers: &mut [u32], rows: &mut [u32], slots: usize) -> Scanned
-    ensures result_value { told_scan result ≡ mapped counts_of (scan_lent file.now headers.old rows.old slots) }
+pub fn scan(
+    file: &[u8],
+    headers: &mut [u32],
+    rows: &mut [u32],
+    slots: usize,
+) -> Result<Counts, Fault>
+    ensures result_value { told_result result ≡ mapped counts_of (scan_lent file.now headers.old rows.old slots) }
     ensures headers_after { headers.new ≡ headers_after (scan_lent file.now headers.old rows.old slots) headers.old }
     ensures rows_after { rows.new ≡ rows_after (scan_lent file.now headers.old rows.old slots) rows.old }
 {
     if 4294967295 < file.len() {
-        return Scanned::Refused(Fault::TooLong);
+        return Err(Fault::TooLong);
     }
     if !is_marked(file) {
-        return Scanned::Refused(Fault::NoMarker);
+        return Err(Fault::NoMarker);
     }
-    match pass(file, headers, rows, slots, false, false) {
-        Passed::Stopped(f) => Scanned::Refused(f),
-        Passed::Counted(_, _, _, tidy) => match pass(file, headers, rows, slots, true, tidy) {
-            Passed::Stopped(f) => Scanned::Refused(f),
-            Passed::Counted(h, r, max, _) => rows_found(h, r, max),
-        },
-    }
+    let (_, tidy) = pass(file, headers, rows, slots, false, false)?;
+    let (counts, _) = pass(file, headers, rows, slots, true, tidy)?;
+    Ok(counts)
 }

@@ -6,9 +6,9 @@ use mathlib.Core.Path.{◌≡◌}
 use Prim.Native.Nat.{◌-◌}
 use Rattle.scan.proofs.pass.Given as goal
 
-abbrev pub invariant-loop-f : goal.invariant-loop-f
-invariant-loop-f l =
+abbrev pub invariant-loop-n : goal.invariant-loop-n
+invariant-loop-n l =
     (length l.headers ≡ length l.initial.headers) × (length l.rows ≡ length l.initial.rows) × Going l.s (header_room l.initial.headers) l.room l.write l.initial.headers l.initial.rows l.i l.section l.h l.r l.max l.headers l.rows × Tidying l.s l.known l.all l.i l.section
 
-abbrev pub decreases-loop-f : goal.decreases-loop-f
-decreases-loop-f l = length l.s - l.i
+abbrev pub decreases-loop-n : goal.decreases-loop-n
+decreases-loop-n l = length l.s - l.i

@@ -27,8 +27,8 @@ put_record-requires c = let a = c.args in
     let t = c.loop-count in
     let k = (both a.known _ c.loop-count-test.true).0 in
     let z = neat_tidy x InData (drop t.place x) (t.invariant.1 k) in
-    let q = tidy_said x t.place (told_row c.in-Tidy.span) (drop c.in-Tidy.field-1 x) (drop c.in-Tidy.next x) (sym (ap (told_tidied x) c.in-Tidy.is) ∙ c.tidy_record.ensures.result_value) z in
-    let w = rw c.in-Tidy.is at c.tidy_record.ensures.tidy_ahead in
+    let q = tidy_said x t.place (told_row c.in-Some.span) (drop c.in-Some.field-0-1 x) (drop c.in-Some.next x) (sym (ap (told_tidied x) c.in-Some.is) ∙ c.tidy_record.ensures.result_value) z in
+    let w = rw c.in-Some.is at c.tidy_record.ensures.tidy_ahead in
     let u = records_ran_length _ _ _ _ _ _ _ t.invariant.0 in
     let f = ltb-true t.count a.room (both a.known _ c.loop-count-test.true).1 in
     record_fits_more (length x) 4294967295 _ c.requires.0 (rw (sym q) at (statement_fits x InData (drop t.place x)))
@@ -39,8 +39,8 @@ overflow_add-count c = let a = c.args in
     let t = c.loop-count in
     let k = (both a.known _ c.loop-count-test.true).0 in
     let z = neat_tidy x InData (drop t.place x) (t.invariant.1 k) in
-    let q = tidy_said x t.place (told_row c.in-Tidy.span) (drop c.in-Tidy.field-1 x) (drop c.in-Tidy.next x) (sym (ap (told_tidied x) c.in-Tidy.is) ∙ c.tidy_record.ensures.result_value) z in
-    let w = rw c.in-Tidy.is at c.tidy_record.ensures.tidy_ahead in
+    let q = tidy_said x t.place (told_row c.in-Some.span) (drop c.in-Some.field-0-1 x) (drop c.in-Some.next x) (sym (ap (told_tidied x) c.in-Some.is) ∙ c.tidy_record.ensures.result_value) z in
+    let w = rw c.in-Some.is at c.tidy_record.ensures.tidy_ahead in
     let u = records_ran_length _ _ _ _ _ _ _ t.invariant.0 in
     let f = ltb-true t.count a.room (both a.known _ c.loop-count-test.true).1 in
     record { fits = omega (arith, f) }
@@ -51,8 +51,8 @@ loop-count-smaller c = let a = c.args in
     let t = c.loop-count in
     let k = (both a.known _ c.loop-count-test.true).0 in
     let z = neat_tidy x InData (drop t.place x) (t.invariant.1 k) in
-    let q = tidy_said x t.place (told_row c.in-Tidy.span) (drop c.in-Tidy.field-1 x) (drop c.in-Tidy.next x) (sym (ap (told_tidied x) c.in-Tidy.is) ∙ c.tidy_record.ensures.result_value) z in
-    let w = rw c.in-Tidy.is at c.tidy_record.ensures.tidy_ahead in
+    let q = tidy_said x t.place (told_row c.in-Some.span) (drop c.in-Some.field-0-1 x) (drop c.in-Some.next x) (sym (ap (told_tidied x) c.in-Some.is) ∙ c.tidy_record.ensures.result_value) z in
+    let w = rw c.in-Some.is at c.tidy_record.ensures.tidy_ahead in
     let u = records_ran_length _ _ _ _ _ _ _ t.invariant.0 in
     let f = ltb-true t.count a.room (both a.known _ c.loop-count-test.true).1 in
     omega (arith, w)
@@ -63,13 +63,13 @@ loop-count-preserved c = let a = c.args in
     let t = c.loop-count in
     let k = (both a.known _ c.loop-count-test.true).0 in
     let z = neat_tidy x InData (drop t.place x) (t.invariant.1 k) in
-    let q = tidy_said x t.place (told_row c.in-Tidy.span) (drop c.in-Tidy.field-1 x) (drop c.in-Tidy.next x) (sym (ap (told_tidied x) c.in-Tidy.is) ∙ c.tidy_record.ensures.result_value) z in
-    let w = rw c.in-Tidy.is at c.tidy_record.ensures.tidy_ahead in
+    let q = tidy_said x t.place (told_row c.in-Some.span) (drop c.in-Some.field-0-1 x) (drop c.in-Some.next x) (sym (ap (told_tidied x) c.in-Some.is) ∙ c.tidy_record.ensures.result_value) z in
+    let w = rw c.in-Some.is at c.tidy_record.ensures.tidy_ahead in
     let u = records_ran_length _ _ _ _ _ _ _ t.invariant.0 in
     let f = ltb-true t.count a.room (both a.known _ c.loop-count-test.true).1 in
-    rw (c.put_record.ensures, c.greater-max.ensures) (
-      RecordsRan.more t.invariant.0 k (told_row c.in-Tidy.span) c.in-Tidy.field-1 c.in-Tidy.next q z (omega (arith, w)) (omega (arith, w)) f,
-      λ y. neat_row x InData (drop t.place x) (told_row c.in-Tidy.span) (drop c.in-Tidy.field-1 x) (drop c.in-Tidy.next x) q (t.invariant.1 y),
+    rw (c.put_record.ensures, c.max-max.ensures) (
+      RecordsRan.more t.invariant.0 k (told_row c.in-Some.span) c.in-Some.field-0-1 c.in-Some.next q z (omega (arith, w)) (omega (arith, w)) f,
+      λ y. neat_row x InData (drop t.place x) (told_row c.in-Some.span) (drop c.in-Some.field-0-1 x) (drop c.in-Some.next x) q (t.invariant.1 y),
     )
 
 pub shape_of-rows : goal.shape_of-rows
