@@ -44,6 +44,11 @@ abbrev pub told_read : {A : Type 0} → Result A Fault → State → Read A
 told_read (Ok a) t = reading (good a) t.place t.end
 told_read (Err f) t = reading (bad (told f)) t.place t.end
 
+-- what the code's answer says, its value told by f: that or the refusal that its fault tells, and where the reader t then stands
+abbrev pub told_read_by : {A B : Type 0} → (A → B) → Result A Fault → State → Read B
+told_read_by f (Ok a) t = reading (good (f a)) t.place t.end
+told_read_by f (Err g) t = reading (bad (told g)) t.place t.end
+
 -- a parameter that is cut lies in the file of n bytes
 abbrev pub NextParamIn : ℕ → Result Span Fault → Type 0
 NextParamIn n (Ok a) = (a.start ≤ a.stop) × (a.stop ≤ n)

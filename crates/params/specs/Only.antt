@@ -3,10 +3,11 @@
 use Rattle.std.specs.Prelude.{ℕ, ◌≤◌, min, ◌≡◌, refl, List, Result, Ok, Err, length, drop}
 use Rattle.std.proofs.Common.{sym, ◌∙◌, ap, arith, length-drop}
 use Rattle.common.specs.Compare.{clash}
-use Rattle.error.specs.Only.{result_of, result_of_told}
+use Rattle.error.specs.Only.{result_of, result_of_told, fault_of, fault_of_told}
+use Rattle.error.specs.Refusal.{Told, good, bad}
 use Rattle.error.specs.declared.Fault.{Fault}
 use Rattle.params.specs.ParameterEnd.{cut_of}
-use Rattle.params.specs.Answer.{Read, told_read, ended_at, EndedIn}
+use Rattle.params.specs.Answer.{Read, told_read, told_read_by, ended_at, EndedIn}
 use Rattle.params.specs.declared.State.{State}
 use Rattle.params.specs.declared.Cut.{Cut}
 
@@ -31,6 +32,33 @@ read_only {A} a b s t e = (
   sym (answer_told a s) ∙ ap (λ (r : Read A). result_of r.answer) e ∙ answer_told b t,
   sym (state_told a s) ∙ ap state_of e ∙ state_told b t,
 )
+
+-- where the answer is a value, it is had back by g from what f tells of it
+abbrev pub HeldBack : {A B : Type 0} → (A → B) → (B → A) → Result A Fault → Type 0
+HeldBack f g (Ok a) = g (f a) ≡ a
+HeldBack f g (Err q) = Unit {0}
+
+-- the code's answer, its value had back by g
+value_back : {A B : Type 0} → (B → A) → Told B → Result A Fault
+value_back g (good b) = Ok (g b)
+value_back g (bad q) = Err (fault_of q)
+
+-- the answer and the reader that tell this, by g
+read_back : {A B : Type 0} → (B → A) → Read B → Result A Fault × State
+read_back g r = (value_back g r.answer, state_of r)
+
+-- what is told by f gives back, by g, the code's answer and the reader
+read_told : {A B : Type 0} (f : A → B) (g : B → A) (a : Result A Fault) (t : State) → HeldBack f g a → read_back g (told_read_by f a t) ≡ (a, t)
+unfolding read_back state_of value_back
+read_told f g (Ok a) t h = ap (λ x. (Ok x, t)) h
+read_told f g (Err q) t h = ap (λ x. (Err x, t)) (fault_of_told q)
+
+-- each reader whose value is told by f has one answer, and leaves one reader, where g gives the value back
+pub read_by_only : {A B : Type 0} (f : A → B) (g : B → A) (a b : Result A Fault) (s t : State) → HeldBack f g a → HeldBack f g b
+    → told_read_by f a s ≡ told_read_by f b t → (a ≡ b) × (s ≡ t)
+read_by_only f g a b s t h k e =
+    let p = sym (read_told f g a s h) ∙ ap (read_back g) e ∙ read_told f g b t k in
+    (ap (λ x. x.0) p, ap (λ x. x.1) p)
 
 -- a rest of the bytes begins at one place
 rest_one : (xs : List ℕ) (i j : ℕ) → i ≤ length xs → j ≤ length xs → drop i xs ≡ drop j xs → i ≡ j

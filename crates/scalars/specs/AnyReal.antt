@@ -1,6 +1,6 @@
 -- Any real as a measure, and where it may be unset: no refusal but 12, and what the class reads there is read the same. Shown once of all readings by
 -- which a measure or what may be unset is read. Assumes nothing.
-use Rattle.std.specs.Prelude.{ℕ, ◌≡◌, refl, Bool, true, false, List, eqb}
+use Rattle.std.specs.Prelude.{ℕ, ◌≡◌, refl, Bool, true, false, List, Option, None, eqb}
 use Rattle.std.proofs.Common.{◌∙◌, ap, eqb-true}
 use Rattle.common.specs.Pick.{pick}
 use Rattle.common.specs.Compare.{clash}
@@ -8,7 +8,6 @@ use Rattle.reals.specs.Scalar.{real_of, any_real_of}
 use Rattle.reals.specs.Answer.{Answer, read, refused}
 use Rattle.reals.specs.OldClass.{any_kept, any_12, any_refused}
 use Rattle.scalars.specs.Scalars.{is_unset, as_given, option_of, Kernel, inside, bare, kernel_of, kernel_real, measured, measure_by, measure_of}
-use Rattle.scalars.specs.Answer.{Given, unset}
 
 -- ---- no refusal but 12
 -- an answer is read, or is 12
@@ -46,7 +45,7 @@ measure_12 g only t = scalar_twelve_only (go (g t) (scalar_twelve_is (g t) (only
 pub option_12 : {A : Type 0} (g : List ℕ → Answer A) → ((t : List ℕ) (n : ℕ) → g t ≡ refused n → n ≡ 12) → (t : List ℕ) (n : ℕ) → option_of g t ≡ refused n → n ≡ 12
 option_12 {A} g only t = scalar_twelve_only (go (is_unset t) (g t) (scalar_twelve_is (g t) (only t)))
   where
-    go : (u : Bool) (a : Answer A) → ScalarTwelve a → ScalarTwelve (pick u (read unset) (as_given a))
+    go : (u : Bool) (a : Answer A) → ScalarTwelve a → ScalarTwelve (pick u (read None) (as_given a))
     go true a h = tt
     go false (read v) h = tt
     go false (refused n) h = h
@@ -82,10 +81,10 @@ measure_kept f g kept other t b e = go (f t) refl (kernel_of t) e
     go (refused m) h k d = by (eqb m 12) m refl h k d
 
 -- what f reads as a value that may be unset, g reads the same
-pub option_kept : {A : Type 0} (f g : List ℕ → Answer A) → ((t : List ℕ) (b : A) → f t ≡ read b → g t ≡ read b) → (t : List ℕ) (v : Given A) → option_of f t ≡ read v → option_of g t ≡ read v
+pub option_kept : {A : Type 0} (f g : List ℕ → Answer A) → ((t : List ℕ) (b : A) → f t ≡ read b → g t ≡ read b) → (t : List ℕ) (v : Option A) → option_of f t ≡ read v → option_of g t ≡ read v
 option_kept {A} f g kept t v e = go (is_unset t) (f t) refl e
   where
-    go : (u : Bool) (a : Answer A) → f t ≡ a → pick u (read unset) (as_given a) ≡ read v → pick u (read unset) (as_given (g t)) ≡ read v
+    go : (u : Bool) (a : Answer A) → f t ≡ a → pick u (read None) (as_given a) ≡ read v → pick u (read None) (as_given (g t)) ≡ read v
     go true a h d = d
     go false (read b) h d = ap as_given (kept t b h) ∙ d
     go false (refused n) h d = clash (cc)
@@ -96,9 +95,9 @@ unfolding measure_of
 any_measure_kept = measure_kept real_of any_real_of any_kept any_12
 
 -- document 01's reals that may be unset keep their values where any real is read
-pub opt_any_kept : (t : List ℕ) (v : Given ℕ) → option_of real_of t ≡ read v → option_of any_real_of t ≡ read v
+pub opt_any_kept : (t : List ℕ) (v : Option ℕ) → option_of real_of t ≡ read v → option_of any_real_of t ≡ read v
 opt_any_kept = option_kept real_of any_real_of any_kept
 
 -- document 01's measures that may be unset keep their values where any real is read
-pub opt_any_measure_kept : (t : List ℕ) (v : Given ℕ) → option_of measure_of t ≡ read v → option_of (measure_by any_real_of) t ≡ read v
+pub opt_any_measure_kept : (t : List ℕ) (v : Option ℕ) → option_of measure_of t ≡ read v → option_of (measure_by any_real_of) t ≡ read v
 opt_any_measure_kept = option_kept measure_of (measure_by any_real_of) any_measure_kept

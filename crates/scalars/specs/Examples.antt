@@ -4,7 +4,6 @@ use Rattle.std.specs.Prelude.{◌≡◌, refl, []}
 use Rattle.common.specs.Walk.{walk}
 use Rattle.common.specs.Bytes.{bytes}
 use Rattle.record.specs.Text.{past, trail, number_from}
-use Rattle.record.specs.Word.{same_bytes}
 use Rattle.reals.specs.Scalar.{parse_of, real_of, whole_of, reference_of}
 use Rattle.reals.specs.Answer.{refused}
 use Rattle.scalars.specs.Scalars.{is_unset, option_of, kernel_of, measure_of, truth_of}
@@ -16,7 +15,7 @@ empty_reference = refl
 
 -- an empty parameter, read as a reference or `$`, is 12
 empty_option : option_of reference_of [] ≡ refused 12
-unfolding reference_of is_unset same_bytes
+unfolding reference_of is_unset
 empty_option = refl
 
 -- an empty parameter, read as an integer, is 12
@@ -36,7 +35,7 @@ empty_measure = refl
 
 -- an empty parameter, read as a boolean, is 12
 empty_truth : truth_of [] ≡ refused 12
-unfolding truth_of same_bytes
+unfolding truth_of
 empty_truth = refl
 
 -- any bytes, or none, may stand before the first `(` of a measure: `(1.)` reads as `1.` does
@@ -81,5 +80,5 @@ outside_inside = refl
 
 -- `.t.` is no boolean
 small_letter : truth_of (bytes ".t.") ≡ refused 12
-unfolding truth_of same_bytes
+unfolding truth_of
 small_letter = refl

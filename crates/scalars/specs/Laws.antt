@@ -1,5 +1,5 @@
 -- What the code's parts promise, put together to the answers of Scalars.antt. Assumes nothing.
-use Rattle.std.specs.Prelude.{ℕ, zero, suc, ◌+◌, ◌-◌, ◌≤◌, ◌<◌, ◌≡◌, refl, true, false, List, [], ◌∷◌, ◌++◌, length, take, drop, get_or}
+use Rattle.std.specs.Prelude.{ℕ, zero, suc, ◌+◌, ◌-◌, ◌≤◌, ◌<◌, ◌≡◌, refl, true, false, List, [], ◌∷◌, ◌++◌, length, take, drop, get_or, Option, Some, None, Err}
 use Rattle.std.proofs.Common.{sym, ◌∙◌, arith, length-drop, take-append-drop, take-suc, take-take, drop-drop, get_or-drop, eq-eqb, ne_eqb}
 use Rattle.std.proofs.Math.Path.{ap}
 use Rattle.std.proofs.Math.Decide.{dec_le}
@@ -12,7 +12,16 @@ use Rattle.record.specs.Word.{trimmed}
 use Rattle.record.specs.Form.{All, NotLast}
 use Rattle.record.specs.FormRight.{trail_only}
 use Rattle.record.specs.FormRight.Parts.{last_none}
-use Rattle.scalars.specs.Scalars.{unopening, inside, bare, enclosed, kernel_from, kernel_of}
+use Rattle.std.specs.Option.{ok_or}
+use Rattle.error.specs.Refusal.{refusal, Told, bad}
+use Rattle.error.specs.declared.Fault.TheVariants.{WrongType}
+use Rattle.params.specs.Answer.{reading, told_read}
+use Rattle.params.specs.declared.State.{State}
+use Rattle.reals.specs.Answer.{Answer, read, refused, told_real}
+use Rattle.reals.specs.declared.NotRead.{NotRead}
+use Rattle.reals.specs.declared.NotRead.TheVariants.{Outside, NotReal}
+use Rattle.scalars.specs.Answer.{answered, number_of}
+use Rattle.scalars.specs.Scalars.{as_given, unopening, inside, bare, enclosed, kernel_from, kernel_of}
 
 -- the first m bytes of a list from place s on
 drop_take : (s m : ℕ) (l : List ℕ) → drop s (take m l) ≡ take (m - s) (drop s l)
@@ -97,3 +106,19 @@ module _ (t : List ℕ) (o : ℕ) (found : drop o t ≡ past unopening t) (withi
   kernel_part h k =
       let i : length (drop (o + 1) t) - 1 ≡ length t - 1 - (o + 1) = omega (arith, length-drop (o + 1) t) in
       sym (follows (omega arith)) ∙ rw (last_at h, eq-eqb _ 41 k, i) refl
+
+-- a real that is not read is refused as its number says
+pub real_refused : (p : ℕ) (w : NotRead) → ◌≡◌ {A = Told ℕ} (bad (refusal (number_of w) 0 p)) (answered p (told_real (Err w)))
+real_refused p Outside = refl
+real_refused p NotReal = refl
+
+-- a real that may be unset and is not read is refused as its number says
+pub opt_real_refused : (p : ℕ) (w : NotRead) → ◌≡◌ {A = Told (Option ℕ)} (bad (refusal (number_of w) 0 p)) (answered p (as_given (told_real (Err w))))
+opt_real_refused p Outside = refl
+opt_real_refused p NotReal = refl
+
+-- where what may be read is read or 12, so is the reader's answer: at the parameter's start
+pub read_or_wrong : {A : Type 0} (o : Option A) (p : ℕ) (t : State) (k : Option A → Answer A) → ((x : A) → k (Some x) ≡ read x) → k None ≡ refused 12
+    → told_read (ok_or o (WrongType p)) t ≡ reading (answered p (k o)) t.place t.end
+read_or_wrong (Some x) p t k h e = ap (λ v. reading (answered p v) t.place t.end) (sym (h x))
+read_or_wrong None p t k h e = ap (λ v. reading (answered p v) t.place t.end) (sym e)

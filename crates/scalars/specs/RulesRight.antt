@@ -1,5 +1,5 @@
 -- Rules.antt's rules and what Scalars.antt computes are one: what is computed is so, and nothing else is. Assumes nothing.
-use Rattle.std.specs.Prelude.{ℕ, ◌-◌, ◌≡◌, ◌⊎◌, Bool, true, not, eqb, length, get_or}
+use Rattle.std.specs.Prelude.{ℕ, ◌-◌, ◌≡◌, ◌⊎◌, Bool, true, not, Option, None, eqb, length, get_or}
 use Rattle.std.proofs.Math.Path.{refl}
 use Rattle.std.proofs.Common.{sym, ◌∙◌, ap, subst, inl, inr, arith, eqb-true, ne_eqb, length-append, take_at}
 use Rattle.std.proofs.Math.Bool.{false}
@@ -24,9 +24,9 @@ use Rattle.reals.specs.By.{unwritten_by}
 use Rattle.reals.specs.WholeRight.{reference_is, reference_only}
 use Rattle.reals.specs.declared.Reals.{Reals}
 use Rattle.reals.specs.declared.Reals.TheVariants.{Class, Any}
-use Rattle.scalars.specs.Answer as Scalars
 use Rattle.scalars.specs.Scalars.{is_unset, as_given, option_of, unopening, inside, bare, enclosed, kernel_from, kernel_of, measured, measure_by, measure_of, truth_of}
-use Rattle.scalars.specs.Answer.{Given, Logical}
+use Rattle.scalars.specs.declared.Truth.{Truth}
+use Rattle.scalars.specs.declared.Truth.TheVariants.{True, False, Unknown}
 use Rattle.scalars.specs.Rules.{Typed, MeasureForm, TruthForm, OptionForm}
 
 -- ---- the same bytes
@@ -196,24 +196,24 @@ any_measure_only = measured_only any_real_of (λ t u. typed_by Any) AnyForm (λ 
 
 -- ---- booleans
 -- "`.T.` `.F.` `.U.`": the answer by the rules is the one that is computed
-pub truth_only : {t : List ℕ} {a : Answer Logical} → TruthForm t a → a ≡ truth_of t
-unfolding truth_of same_bytes
+pub truth_only : {t : List ℕ} {a : Answer Truth} → TruthForm t a → a ≡ truth_of t
+unfolding truth_of
 truth_only TruthForm.true = refl
 truth_only TruthForm.false = refl
 truth_only TruthForm.unknown = refl
 truth_only {t} (TruthForm.other h k l) = rw (same_not t (bytes ".T.") h, same_not t (bytes ".F.") k, same_not t (bytes ".U.") l) refl
 
 -- every text has an answer as a boolean by the rules
-truth_comes : (t : List ℕ) → (a : Answer Logical) × TruthForm t a
+truth_comes : (t : List ℕ) → (a : Answer Truth) × TruthForm t a
 truth_comes t = go (same_bytes t (bytes ".T.")) (same_bytes t (bytes ".F.")) (same_bytes t (bytes ".U.")) refl refl refl
   where
     differs : (w : List ℕ) → same_bytes t w ≡ false → t ≡ w → ⊥
     differs w h e = clash (cc (ap (λ (x : List ℕ). same_bytes x w) e ∙ same_self w))
 
-    go : (a b c : Bool) → same_bytes t (bytes ".T.") ≡ a → same_bytes t (bytes ".F.") ≡ b → same_bytes t (bytes ".U.") ≡ c → (a : Answer Logical) × TruthForm t a
-    go true b c p q r = (_, subst (λ (x : List ℕ). TruthForm x (read Scalars.holds)) (sym (same_is t _ p)) TruthForm.true)
-    go false true c p q r = (_, subst (λ (x : List ℕ). TruthForm x (read Scalars.fails)) (sym (same_is t _ q)) TruthForm.false)
-    go false false true p q r = (_, subst (λ (x : List ℕ). TruthForm x (read Scalars.unknown)) (sym (same_is t _ r)) TruthForm.unknown)
+    go : (a b c : Bool) → same_bytes t (bytes ".T.") ≡ a → same_bytes t (bytes ".F.") ≡ b → same_bytes t (bytes ".U.") ≡ c → (a : Answer Truth) × TruthForm t a
+    go true b c p q r = (_, subst (λ (x : List ℕ). TruthForm x (read True)) (sym (same_is t _ p)) TruthForm.true)
+    go false true c p q r = (_, subst (λ (x : List ℕ). TruthForm x (read False)) (sym (same_is t _ q)) TruthForm.false)
+    go false false true p q r = (_, subst (λ (x : List ℕ). TruthForm x (read Unknown)) (sym (same_is t _ r)) TruthForm.unknown)
     go false false false p q r = (refused 12, TruthForm.other (differs _ p) (differs _ q) (differs _ r))
 
 -- what is computed of a boolean is the answer by the rules
@@ -230,14 +230,14 @@ module _ {A : Type 0} (P : List ℕ → Answer A → Type 0) (f : List ℕ → A
       differs : same_bytes t (bytes "$") ≡ false → t ≡ bytes "$" → ⊥
       differs e q = clash (cc (ap (λ (x : List ℕ). same_bytes x (bytes "$")) q ∙ same_self (bytes "$")))
 
-      go : (u : Bool) → same_bytes t (bytes "$") ≡ u → (a : Answer A) → P t a → OptionForm P t (pick u (read Scalars.unset) (as_given a))
-      go true e a p = subst (λ (x : List ℕ). OptionForm P x (read Scalars.unset)) (sym (same_is t _ e)) OptionForm.unset
+      go : (u : Bool) → same_bytes t (bytes "$") ≡ u → (a : Answer A) → P t a → OptionForm P t (pick u (read None) (as_given a))
+      go true e a p = subst (λ (x : List ℕ). OptionForm P x (read None)) (sym (same_is t _ e)) OptionForm.unset
       go false e (read a) p = OptionForm.given (differs e) p
       go false e (refused n) p = OptionForm.other (differs e) p
 
   -- no answer but what is computed is by the rule that of a parameter that may be unset, where that is so of values
-  pub option_only : ((t : List ℕ) (a : Answer A) → P t a → a ≡ f t) → {t : List ℕ} {a : Answer (Given A)} → OptionForm P t a → a ≡ option_of f t
-  unfolding is_unset same_bytes
+  pub option_only : ((t : List ℕ) (a : Answer A) → P t a → a ≡ f t) → {t : List ℕ} {a : Answer (Option A)} → OptionForm P t a → a ≡ option_of f t
+  unfolding is_unset
   option_only h OptionForm.unset = refl
   option_only h {t} (OptionForm.given {a} n p) = rw (same_not t (bytes "$") n) (ap as_given (h t (read a) p))
   option_only h {t} (OptionForm.other {n} k p) = rw (same_not t (bytes "$") k) (ap as_given (h t (refused n) p))
@@ -247,7 +247,7 @@ pub opt_reference_is : (t : List ℕ) → OptionForm ReferenceForm t (option_of 
 opt_reference_is = option_is ReferenceForm reference_of reference_is
 
 -- `next_opt_ref`: no answer but what is computed is by the rule that of a reference or `$`
-pub opt_reference_only : {t : List ℕ} {a : Answer (Given ℕ)} → OptionForm ReferenceForm t a → a ≡ option_of reference_of t
+pub opt_reference_only : {t : List ℕ} {a : Answer (Option ℕ)} → OptionForm ReferenceForm t a → a ≡ option_of reference_of t
 opt_reference_only = option_only ReferenceForm reference_of (λ t a. reference_only)
 
 -- `next_opt_f64`: what is computed of a real or `$` is the answer by the rule
@@ -255,7 +255,7 @@ pub opt_real_is : (t : List ℕ) → OptionForm RealForm t (option_of real_of t)
 opt_real_is = option_is RealForm real_of real_is
 
 -- `next_opt_f64`: no answer but what is computed is by the rule that of a real or `$`
-pub opt_real_only : {t : List ℕ} {a : Answer (Given ℕ)} → OptionForm RealForm t a → a ≡ option_of real_of t
+pub opt_real_only : {t : List ℕ} {a : Answer (Option ℕ)} → OptionForm RealForm t a → a ≡ option_of real_of t
 opt_real_only = option_only RealForm real_of (λ t a. real_only)
 
 -- what is computed of any real or `$` is the answer by the rule
@@ -263,5 +263,5 @@ pub opt_any_is : (t : List ℕ) → OptionForm AnyForm t (option_of any_real_of 
 opt_any_is = option_is AnyForm any_real_of any_is
 
 -- no answer but what is computed is by the rule that of any real or `$`
-pub opt_any_only : {t : List ℕ} {a : Answer (Given ℕ)} → OptionForm AnyForm t a → a ≡ option_of any_real_of t
+pub opt_any_only : {t : List ℕ} {a : Answer (Option ℕ)} → OptionForm AnyForm t a → a ≡ option_of any_real_of t
 opt_any_only = option_only AnyForm any_real_of (λ t a. any_only)

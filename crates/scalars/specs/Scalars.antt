@@ -1,29 +1,27 @@
 -- Document 01, 'Parameters', 'Scalars': what a parameter's bytes read as, and what a reader of scalars answers. Numbers are those of
 -- the crate reals, parameters those of the crate params. Assumes nothing.
-use Rattle.std.specs.Prelude.{ℕ, ◌-◌, ◌≤◌, ◌≡◌, Bool, not, List, [], ◌∷◌, eqb, length, take, drop, get_or}
+use Rattle.std.specs.Prelude.{ℕ, ◌-◌, ◌≤◌, ◌≡◌, Bool, not, List, [], ◌∷◌, Option, Some, None, eqb, length, take, drop, get_or}
 use Rattle.common.specs.Pick.{pick}
 use Rattle.record.specs.Text.{past}
 use Rattle.record.specs.Word.{same_bytes, trimmed}
 use Rattle.reals.specs.Scalar.{real_of}
 use Rattle.reals.specs.Answer.{Answer, read, refused}
-use Rattle.scalars.specs.Answer.{Given, given, unset, Logical, holds, fails, unknown}
-use Rattle.scalars.specs.declared.Inner.{Inner}
-use Rattle.scalars.specs.declared.Inner.TheVariants.{Inside, Bare}
+use Rattle.params.specs.Answer.{Span}
 use Rattle.scalars.specs.declared.Truth.{Truth}
-use Rattle.scalars.specs.declared.Truth.TheVariants.{True, False, Unknown, NotTruth}
+use Rattle.scalars.specs.declared.Truth.TheVariants.{True, False, Unknown}
 
 -- whether a parameter is `$`: "`$` unset"
 unfoldable pub is_unset : List ℕ → Bool
 is_unset t = same_bytes t (36 ∷ [])
 
 -- an answer as that of a parameter that may be unset, where one is given
-abbrev pub as_given : {A : Type 0} → Answer A → Answer (Given A)
-as_given (read a) = read (given a)
+abbrev pub as_given : {A : Type 0} → Answer A → Answer (Option A)
+as_given (read a) = read (Some a)
 as_given (refused n) = refused n
 
 -- "`$` unset for `next_opt_ref` and `next_opt_f64`": else as f reads it
-abbrev pub option_of : {A : Type 0} → (List ℕ → Answer A) → List ℕ → Answer (Given A)
-option_of f t = pick (is_unset t) (read unset) (as_given (f t))
+abbrev pub option_of : {A : Type 0} → (List ℕ → Answer A) → List ℕ → Answer (Option A)
+option_of f t = pick (is_unset t) (read None) (as_given (f t))
 
 -- a byte is no `(`
 abbrev pub unopening : ℕ → Bool
@@ -66,18 +64,16 @@ unfoldable pub measure_of : List ℕ → Answer ℕ
 measure_of t = measure_by real_of t
 
 -- what a text answers as a boolean: "`.T.` `.F.` `.U.`"
-unfoldable pub truth_of : List ℕ → Answer Logical
+unfoldable pub truth_of : List ℕ → Answer Truth
 truth_of t =
-    pick (same_bytes t (46 ∷ 84 ∷ 46 ∷ [])) (read holds) (pick (same_bytes t (46 ∷ 70 ∷ 46 ∷ [])) (read fails) (pick (same_bytes t (46 ∷ 85 ∷ 46 ∷ [])) (read unknown) (refused 12)))
+    pick (same_bytes t (46 ∷ 84 ∷ 46 ∷ [])) (read True) (pick (same_bytes t (46 ∷ 70 ∷ 46 ∷ [])) (read False) (pick (same_bytes t (46 ∷ 85 ∷ 46 ∷ [])) (read Unknown) (refused 12)))
 
 -- what the code's answer says of the part in parentheses
-abbrev pub InnerAt : List ℕ → Inner → Type 0
-InnerAt t (Inside a z) = (kernel_of t ≡ inside (take (z - a) (drop a t))) × (a ≤ z) × (z ≤ length t)
-InnerAt t Bare = kernel_of t ≡ bare
+abbrev pub InnerAt : List ℕ → Option Span → Type 0
+InnerAt t (Some w) = (kernel_of t ≡ inside (take (w.stop - w.start) (drop w.start t))) × (w.start ≤ w.stop) × (w.stop ≤ length t)
+InnerAt t None = kernel_of t ≡ bare
 
--- what the code's boolean says
-abbrev pub told_truth : Truth → Answer Logical
-told_truth True = read holds
-told_truth False = read fails
-told_truth Unknown = read unknown
-told_truth NotTruth = refused 12
+-- what the code's boolean says, or 12
+abbrev pub told_truth : Option Truth → Answer Truth
+told_truth (Some b) = read b
+told_truth None = refused 12

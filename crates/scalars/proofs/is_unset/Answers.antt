@@ -3,4 +3,4 @@ use Rattle.scalars.proofs.is_unset.Goals as goal
 
 pub returns : goal.returns
 unfolding is_unset
-returns c = c.same_bytes.ensures
+returns c = rw c.as_slice.ensures at c.eq.ensures

@@ -1,26 +1,16 @@
+use Rattle.std.proofs.lemmas.Result.{err_from_is_err_and}
+use Rattle.std.proofs.Common.{ap, refl}
+use Rattle.params.specs.Answer.{read_mapped}
 use Rattle.scalars.specs.Answer.{next_of}
-use mathlib.Core.Path.{refl}
+use Rattle.scalars.specs.Laws.{read_or_wrong}
+use Rattle.scalars.specs.Scalars.{told_truth}
 use Rattle.scalars.proofs.next_bool.Goals as goal
 
-pub between-requires : goal.between-requires
-between-requires c = rw c.in-Span.is at c.param_span.ensures.next_param_in
-
-pub returns-in-Refused : goal.returns-in-Refused
+pub returns-in_err-w : goal.returns-in_err-w
 unfolding next_of
-returns-in-Refused c = rw (← c.param_span.ensures.result_value, c.in-Refused.is) refl
+returns-in_err-w c = let p = err_from_is_err_and c.from_residual.result c.from_residual.ensures.1 in
+    rw (p.1, p.2) (ap (read_mapped _) c.in_err-w.ensures.result_value)
 
-pub returns-in-True : goal.returns-in-True
+pub returns : goal.returns
 unfolding next_of
-returns-in-True c = rw (← c.param_span.ensures.result_value, c.in-Span.is, ← c.between.ensures, ← c.parse_truth.ensures, c.in-True.is) refl
-
-pub returns-in-False : goal.returns-in-False
-unfolding next_of
-returns-in-False c = rw (← c.param_span.ensures.result_value, c.in-Span.is, ← c.between.ensures, ← c.parse_truth.ensures, c.in-False.is) refl
-
-pub returns-in-Unknown : goal.returns-in-Unknown
-unfolding next_of
-returns-in-Unknown c = rw (← c.param_span.ensures.result_value, c.in-Span.is, ← c.between.ensures, ← c.parse_truth.ensures, c.in-Unknown.is) refl
-
-pub returns-in-NotTruth : goal.returns-in-NotTruth
-unfolding next_of
-returns-in-NotTruth c = rw (← c.param_span.ensures.result_value, c.in-Span.is, ← c.between.ensures, ← c.parse_truth.ensures, c.in-NotTruth.is) refl
+returns c = rw (← c.in_ok-w.ensures.result_value, ← c.parse_truth.ensures, c.ok_or.ensures.value) (read_or_wrong c.parse_truth.result c.in_ok-w.w.start c.param_span.new.at told_truth (λ x. refl) refl)

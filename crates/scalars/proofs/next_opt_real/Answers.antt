@@ -1,26 +1,23 @@
+use Rattle.std.proofs.lemmas.Result.{err_from_is_err_and}
+use Rattle.std.proofs.Common.{ap, refl}
+use Rattle.params.specs.Answer.{reading, read_mapped}
+use Rattle.scalars.specs.Laws.{opt_real_refused}
 use Rattle.scalars.specs.Answer.{next_of}
-use mathlib.Core.Path.{refl}
 use Rattle.scalars.proofs.next_opt_real.Goals as goal
 
-pub between-t-requires : goal.between-t-requires
-between-t-requires c = rw c.in-Span.is at c.param_span.ensures.next_param_in
+pub returns-in_err-w : goal.returns-in_err-w
+unfolding next_of
+returns-in_err-w c = let p = err_from_is_err_and c.from_residual.result c.from_residual.ensures.1 in
+    rw (p.1, p.2) (ap (read_mapped _) c.in_err-w.ensures.result_value)
 
 pub returns-then-is_unset : goal.returns-then-is_unset
 unfolding next_of
-returns-then-is_unset c = rw (← c.param_span.ensures.result_value, c.in-Span.is, ← c.between-t.ensures, ← c.is_unset.ensures, c.if-is_unset.true) refl
+returns-then-is_unset c = rw (← c.in_ok-w.ensures.result_value, ← c.is_unset.ensures, c.if-is_unset.true) refl
 
-pub returns-in-Refused : goal.returns-in-Refused
+pub returns-in-Ok : goal.returns-in-Ok
 unfolding next_of
-returns-in-Refused c = rw (← c.param_span.ensures.result_value, c.in-Refused.is) refl
+returns-in-Ok c = rw (← c.in_ok-w.ensures.result_value, ← c.is_unset.ensures, c.if-is_unset.false, ← c.in-Ok.ensures) refl
 
-pub returns-in-Value : goal.returns-in-Value
+pub returns-in-Err : goal.returns-in-Err
 unfolding next_of
-returns-in-Value c = rw (← c.param_span.ensures.result_value, c.in-Span.is, ← c.between-t.ensures, ← c.is_unset.ensures, c.if-is_unset.false, ← c.read_real.ensures, c.in-Value.is) refl
-
-pub returns-in-Outside : goal.returns-in-Outside
-unfolding next_of
-returns-in-Outside c = rw (← c.param_span.ensures.result_value, c.in-Span.is, ← c.between-t.ensures, ← c.is_unset.ensures, c.if-is_unset.false, ← c.read_real.ensures, c.in-Outside.is) refl
-
-pub returns-in-NotReal : goal.returns-in-NotReal
-unfolding next_of
-returns-in-NotReal c = rw (← c.param_span.ensures.result_value, c.in-Span.is, ← c.between-t.ensures, ← c.is_unset.ensures, c.if-is_unset.false, ← c.read_real.ensures, c.in-NotReal.is) refl
+returns-in-Err c = rw (← c.in_ok-w.ensures.result_value, ← c.is_unset.ensures, c.if-is_unset.false, c.refused_real.ensures, ← c.in-Err.ensures) (ap (λ v. reading v c.param_span.new.at.place c.param_span.new.at.end) (opt_real_refused c.in_ok-w.w.start c.in-Err.why))
