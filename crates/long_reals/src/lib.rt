@@ -70,14 +70,10 @@ fn lower(a: &mut [u32], k: usize) -> bool
     ensures { Lowered (worth a.old) (5 ^ k) (worth a.new) result }
 {
     let mut more = false;
-    let mut left = k;
-    while 13 <= left {
-        let rest = limbs::divide(a, 1220703125);
-        more = more | (rest != 0);
-        left -= 13;
+    for _step in 0..k / 13 {
+        more = more | (limbs::divide(a, 1220703125) != 0);
     }
-    let last = limbs::divide(a, small_power(left));
-    more | (last != 0)
+    more | (limbs::divide(a, small_power(k % 13)) != 0)
 }
 
 // The f64 of a pattern, infinity's at most, with its sign.
@@ -153,15 +149,12 @@ fn raise(a: &mut [u32], used: usize, k: usize) -> usize
     requires { used + k / 13 + 1 ≤ length a.old }
     ensures { (worth (take result a.new) ≡ worth (take used a.old) * 5 ^ k) × (result ≡ used + k / 13 + 1) }
 {
-    let mut n = used;
-    let mut left = k;
-    while 13 <= left {
-        push(a, n, 1220703125, 0);
-        n += 1;
-        left -= 13;
+    let steps = k / 13;
+    for i in 0..steps {
+        push(a, used + i, 1220703125, 0);
     }
-    push(a, n, small_power(left), 0);
-    n + 1
+    push(a, used + steps, small_power(k % 13), 0);
+    used + steps + 1
 }
 
 // The first `used` digits of a, whose number was moved up by 64 binary digits, times 10^k.
@@ -236,15 +229,13 @@ fn first_digit(t: &[u8], from: usize) -> usize
     requires { from ≤ length t.now }
     ensures { FirstAt t.now from result }
 {
-    let mut i = from;
-    while i < t.len() {
+    for i in from..t.len() {
         let c = t[i];
         if record::is_digit(c) & (c != b'0') {
             return i;
         }
-        i += 1;
     }
-    i
+    t.len()
 }
 
 // How many digits there are from a place on.
@@ -252,13 +243,11 @@ fn count_digits(t: &[u8], from: usize) -> usize
     requires { from ≤ length t.now }
     ensures { (result ≡ digits_in (drop from t.now)) × (result ≤ length t.now) }
 {
-    let mut n: usize = 0;
-    let mut i = from;
-    while i < t.len() {
+    let mut n = 0;
+    for i in from..t.len() {
         if record::is_digit(t[i]) {
             n += 1;
         }
-        i += 1;
     }
     n
 }
@@ -270,6 +259,19 @@ struct Filled {
     next: usize,
 }
 
+// Puts the digits that are held, which are fewer than nine, into the room; `next` is the place after them.
+fn put_held(a: &mut [u32], used: usize, weight: u32, held: u32, next: usize) -> Filled
+    requires { used < length a.old }
+    ensures room { worth (take (used + 1) a.new) ≡ worth (take used a.old) * weight + held }
+    ensures places { result ≡ record { used = used + 1; next = next } }
+{
+    push(a, used, weight, held);
+    Filled {
+        used: used + 1,
+        next,
+    }
+}
+
 // Reads so many digits from a place on, nine at a time; bytes that are no digits are passed over.
 fn read_digits(t: &[u8], from: usize, count: usize, a: &mut [u32]) -> Filled
     requires { (from ≤ length t.now) × (count ≤ digits_in (drop from t.now)) × (count / 9 + 2 ≤ length a.old) }
@@ -279,8 +281,10 @@ fn read_digits(t: &[u8], from: usize, count: usize, a: &mut [u32]) -> Filled
     let mut held: u32 = 0;
     let mut weight: u32 = 1;
     let mut left = count;
-    let mut i = from;
-    while (0 < left) & (i < t.len()) {
+    for i in from..t.len() {
+        if left == 0 {
+            return put_held(a, used, weight, held, i);
+        }
         let c = t[i];
         if record::is_digit(c) {
             held = held * 10 + (c - 48) as u32;
@@ -293,13 +297,8 @@ fn read_digits(t: &[u8], from: usize, count: usize, a: &mut [u32]) -> Filled
                 weight = 1;
             }
         }
-        i += 1;
     }
-    push(a, used, weight, held);
-    Filled {
-        used: used + 1,
-        next: i,
-    }
+    put_held(a, used, weight, held, t.len())
 }
 
 // n digits from i on, divided by 10^k, all of them of weight. The room is all 0.

@@ -1,7 +1,6 @@
-use mathlib.Core.Path.{refl, sym, ◌∙◌, ap}
+use mathlib.Core.Path.{sym, ◌∙◌, ap}
 use mathlib.Core.Bool.{Bool, not, ◌&&◌}
-use mathlib.Core.Logic.{inl, inr}
-use native.Mathlib.Nat.{le_antisymm}
+use mathlib.Core.Logic.{inr}
 use native.Mathlib.Omega.{arith}
 use lib.Dec.{eqb}
 use lib.ListN.{get_or}
@@ -10,22 +9,14 @@ use Rattle.long_reals.proofs.first_digit.Goals as goal
 
 -- `long_reals::first_digit` meets its contract: what was passed over is worth nothing. Assumes nothing.
 
-pub loop-i-init : goal.loop-i-init
-loop-i-init c = (omega arith, omega arith, refl)
-
 pub returns-then-is_digit-c : goal.returns-then-is_digit-c
 returns-then-is_digit-c c =
     let p = c.args in
-    let i = c.loop-i.invariant in
     let e = sym (ap (λ (b : Bool). b && not (eqb (get_or p.t.now c.loop-i.i 0) 48)) c.is_digit.ensures) ∙ c.if-is_digit-c.true in
-    record { above = i.0; within = i.1; same = i.2; found = inr (first_leads p.t.now c.loop-i.i c.loop-i-test.true e) }
+    record { above = omega arith; within = omega arith; same = c.loop-i.invariant; found = inr (first_leads p.t.now c.loop-i.i c.loop-i-test.true e) }
 
 pub loop-i-preserved : goal.loop-i-preserved
 loop-i-preserved c =
     let p = c.args in
-    let i = c.loop-i.invariant in
     let e = sym (ap (λ (b : Bool). b && not (eqb (get_or p.t.now c.loop-i.i 0) 48)) c.is_digit.ensures) ∙ c.if-is_digit-c.false in
-    (omega arith, omega arith, first_past p.t.now c.loop-i.i c.loop-i-test.true e ∙ i.2)
-
-pub returns : goal.returns
-returns c = let i = c.loop-i.invariant in record { above = i.0; within = i.1; same = i.2; found = inl (le_antisymm i.1 c.loop-i-test.false) }
+    first_past p.t.now c.loop-i.i c.loop-i-test.true e ∙ c.loop-i.invariant
