@@ -1,7 +1,7 @@
 -- Laws for the code that seeks the next part: each way out, and that a part ends after the place it is sought from.
 -- Assumes nothing.
 use Prim.Native.Nat.{ℕ, zero, suc, ◌+◌, ◌-◌, ◌≤◌, ◌<◌}
-use Rattle.std.specs.Prelude.{◌≡◌, Bool, true, false, List, ◌∷◌, ◌++◌, ltb, take, drop, get_or}
+use Rattle.std.specs.Prelude.{◌≡◌, Bool, true, false, List, ◌∷◌, ◌++◌, ltb, take, drop, get_or, Option as Answer, Some, None, Result, Ok, Err}
 use Rattle.std.proofs.Math.Path.{refl}
 use Rattle.std.proofs.Common.{sym, ◌∙◌, ap, subst, arith, length-append, length-drop, length-take, take_all, drop-cons, lt-ltb, le-ltb}
 use Rattle.std.proofs.Math.Option.{Option, none, some}
@@ -19,16 +19,14 @@ use Rattle.record.specs.Text.{past, keyword}
 use Rattle.record.specs.Head.{header_head}
 use Rattle.record.specs.Form.{HeaderForm}
 use Rattle.record.specs.FormRight.{headerform_is, past_is}
-use Rattle.record.specs.declared.Head.{Head}
-use Rattle.record.specs.declared.Head.TheVariants.{Bad, Complex, Simple}
+use Rattle.record.specs.declared.Named.{Named}
+use Rattle.error.specs.declared.Reason.{Reason}
 use Rattle.statement.specs.Rows.{HeaderRow, header_row, mapped, header_row_of}
 use Rattle.statement.specs.Row.{argued}
 use Rattle.statement.specs.declared.HeaderSpan.{HeaderSpan}
 use Rattle.kinds.specs.declared.Kind.{Kind}
 use Rattle.parts.specs.Part.{part_by, part_in, next_part_of, PartIn, parts_by, parts_from, parts_of, first_kind, first_of}
 use Rattle.parts.specs.Rules.{separator, part_before, part_is_kind, told_next}
-use Rattle.parts.specs.declared.Next.{Next}
-use Rattle.parts.specs.declared.Next.TheVariants.{Is, Over, Refused}
 
 -- "9 span outside the file": where the arguments' end is outside, that is the answer for the next part
 pub next_outside : (s : List ℕ) (from end : ℕ) → length s < end → bad (refusal 9 0 0) ≡ next_part_of s from end
@@ -53,7 +51,7 @@ next_by_lem s from end a h e l =
     rw (le-ltb (length s) end h) (ap (λ (z : ℕ). part_by s (from + z) (header_head (past separator m))) p ∙ ap (λ (z : List ℕ). part_by s (from + a) (header_head z)) (sym (t ∙ e)))
 
 -- a keyword ends before its `(`, which stands in the text
-pub head_inside : {b : List ℕ} {i a z o : ℕ} → HeaderForm b (Simple i a z o) → (a ≤ z) × (z ≤ o) × (o < length b)
+pub head_inside : {b : List ℕ} {n : Named} → HeaderForm b (Ok n) → (n.start ≤ n.end) × (n.end ≤ n.opening) × (n.opening < length b)
 head_inside (HeaderForm.named {a} {v} {k} {w} {r} s f) =
     let p : length (a ++ k) ≡ length a + length k = length-append a k in
     let q : length (a ++ (k ++ w)) ≡ length a + (length k + length w) = length-append a (k ++ w) ∙ ap (λ (n : ℕ). length a + n) (length-append k w) in
@@ -62,8 +60,8 @@ head_inside (HeaderForm.named {a} {v} {k} {w} {r} s f) =
     (omega arith, omega arith, omega arith)
 
 -- the head that is computed has a keyword that ends before its `(`, which stands in the text
-pub head_places : (b : List ℕ) (i a z o : ℕ) → header_head b ≡ Simple i a z o → (a ≤ z) × (z ≤ o) × (o < length b)
-head_places b i a z o e = head_inside (subst (λ (h : Head). HeaderForm b h) e (headerform_is b))
+pub head_places : (b : List ℕ) (n : Named) → header_head b ≡ Ok n → (n.start ≤ n.end) × (n.end ≤ n.opening) × (n.opening < length b)
+head_places b n e = head_inside (subst (λ (h : Result Named Reason). HeaderForm b h) e (headerform_is b))
 
 -- the place of a closing `)` lies behind its `(` and in the file
 pub close_ahead : (s : List ℕ) (p q : ℕ) → p < length s → placed s (closing (drop p s)) ≡ good q → (p < q) × (q < length s)
@@ -113,11 +111,13 @@ next_in s from end p = go (ltb (length s) end)
     fits : length m ≤ length s - from
     fits = window_fits s from end
 
-    by_head : (h : Head) → header_head v ≡ h → part_by s (from + place m v) h ≡ good (some p) → PartIn (length s) from p
-    by_head (Bad why) e f = let z : ◌≡◌ {A = ℕ} 0 1 = cc in absurd (omega arith)
-    by_head (Complex i o) e f = let z : ◌≡◌ {A = ℕ} 0 1 = cc in absurd (omega arith)
-    by_head (Simple i a z o) e f =
-        let (u, w, y) = head_places v i a z o e in
+    by_head : (h : Result Named Reason) → header_head v ≡ h → part_by s (from + place m v) h ≡ good (some p) → PartIn (length s) from p
+    by_head (Err why) e f = let z : ◌≡◌ {A = ℕ} 0 1 = cc in absurd (omega arith)
+    by_head (Ok h) e f =
+        let a : ℕ = h.start in
+        let z : ℕ = h.end in
+        let o : ℕ = h.opening in
+        let (u, w, y) = head_places v h e in
         let l : length v ≤ length m = past_shorter m in
         let (q, c, d) = argued_end s (drop (from + place m v + o) s) (λ q. some (header_row (from + place m v + a) (from + place m v + z) (from + place m v + o + 1) q)) (some p) f in
         let (g, k) = close_ahead s (from + place m v + o) q (omega (arith, fits)) c in
@@ -128,6 +128,11 @@ next_in s from end p = go (ltb (length s) end)
     go true e = let z : ◌≡◌ {A = ℕ} 0 1 = cc in absurd (omega arith)
     go false e = by_head (header_head v) refl e
 
+-- a part is told by the span that its keyword and its `)` give
+pub mapped_some : {A : Type 0} (f : ℕ → A) (y : Told ℕ) → mapped some (mapped f y) ≡ mapped (λ q. some (f q)) y
+mapped_some f (good q) = refl
+mapped_some f (bad q) = refl
+
 -- a part's keyword runs forwards and lies in the file, and its `)` stands behind the place where it is sought
 pub next_ahead : (s : List ℕ) (from end : ℕ) (p : HeaderRow) → next_part_of s from end ≡ good (some p) → (p.key_start ≤ p.key_end) × (p.key_end ≤ length s) × (from ≤ p.arg_end) × (p.arg_end < length s)
 next_ahead s from end p e =
@@ -137,16 +142,9 @@ next_ahead s from end p e =
 -- ---- all parts, read one by one, of which the first of a kind is kept
 
 -- the part that an answer has found so far; none where there is none
-abbrev pub found_of : Next → Option HeaderRow
-found_of (Is p) = some (header_row_of p)
-found_of Over = none
-found_of (Refused f) = none
-
--- no part that was read so far was refused
-abbrev pub NoPartRefused : Next → Type 0
-NoPartRefused (Is p) = Unit {0}
-NoPartRefused Over = Unit {0}
-NoPartRefused (Refused f) = ⊥
+abbrev pub found_of : Answer HeaderSpan → Option HeaderRow
+found_of (Some p) = some (header_row_of p)
+found_of None = none
 
 -- the part that was found so far, or another where there is none
 abbrev pub part_or_else : Option HeaderRow → Option HeaderRow → Option HeaderRow
@@ -154,39 +152,29 @@ part_or_else none b = b
 part_or_else (some a) b = some a
 
 -- where the reading stands at the place i: so many steps are enough, and what was found and what is left give the answer
-pub record Sifting (s : List ℕ) (k : Kind) (start end i : ℕ) (got : Next) : Type 0 where
+pub record Sifting (s : List ℕ) (k : Kind) (start end i : ℕ) (got : Answer HeaderSpan) : Type 0 where
   pub steps : ℕ
   pub enough : length s < steps + i
   pub inside : i ≤ length s
-  pub fine : NoPartRefused got
   pub gives : mapped (λ ps. part_or_else (found_of got) (first_kind s k ps)) (parts_from steps s i end) ≡ mapped (first_kind s k) (parts_of s start end)
 
 -- what was found so far, as the code's answer tells it
-found_told : (got : Next) → NoPartRefused got → told_next got ≡ good (found_of got)
-found_told (Is p) h = refl
-found_told Over h = refl
-found_told (Refused f) h = absurd h
-
--- where nothing was refused so far, nothing is with one part more
-fine_more : (got : Next) (p : HeaderSpan) (hit : Bool) → NoPartRefused got → NoPartRefused (first_of got p hit)
-fine_more (Is q) p hit h = tt
-fine_more (Refused f) p hit h = absurd h
-fine_more Over p true h = tt
-fine_more Over p false h = tt
+found_told : (got : Answer HeaderSpan) → told_next (Ok got) ≡ good (found_of got)
+found_told (Some p) = refl
+found_told None = refl
 
 -- what is found with one part more: what was found before, or that part where it is of the kind, or what the rest gives
-more_found : (got : Next) (p : HeaderSpan) (hit : Bool) (rest : Option HeaderRow) → NoPartRefused got → part_or_else (found_of (first_of got p hit)) rest ≡ part_or_else (found_of got) (pick hit (some (header_row_of p)) rest)
-more_found (Is q) p hit rest h = refl
-more_found (Refused f) p hit rest h = absurd h
-more_found Over p true rest h = refl
-more_found Over p false rest h = refl
+more_found : (got : Answer HeaderSpan) (p : HeaderSpan) (hit : Bool) (rest : Option HeaderRow) → part_or_else (found_of (first_of got p hit)) rest ≡ part_or_else (found_of got) (pick hit (some (header_row_of p)) rest)
+more_found (Some q) p hit rest = refl
+more_found None p true rest = refl
+more_found None p false rest = refl
 
 module _ (s : List ℕ) (k : Kind) (start end : ℕ) where
   -- where no part has been read, the reading stands at the start
-  pub sift_starts : start ≤ length s → Sifting s k start end start Over
-  sift_starts h = record { steps = suc (length s); enough = omega arith; inside = h; fine = tt; gives = refl }
+  pub sift_starts : start ≤ length s → Sifting s k start end start None
+  sift_starts h = record { steps = suc (length s); enough = omega arith; inside = h; gives = refl }
 
-  module _ (i : ℕ) (got : Next) (f : Sifting s k start end i got) where
+  module _ (i : ℕ) (got : Answer HeaderSpan) (f : Sifting s k start end i got) where
     -- the steps that are left after one, and that they give the answer
     later : (n : ℕ) × (suc n ≡ f.steps) × (mapped (λ ps. part_or_else (found_of got) (first_kind s k ps)) (parts_by (next_part_of s i end) (λ p. parts_from n s (p.arg_end + 1) end)) ≡ mapped (first_kind s k) (parts_of s start end))
     unfolding parts_from
@@ -198,8 +186,8 @@ module _ (s : List ℕ) (k : Kind) (start end : ℕ) where
         go (suc m) l e = (m, refl, e)
 
     -- where no part is left, what was found is the answer
-    pub sift_over : next_part_of s i end ≡ good none → told_next got ≡ mapped (first_kind s k) (parts_of s start end)
-    sift_over e = found_told got f.fine ∙ ap good (none_left (found_of got)) ∙ (rw e at later.2)
+    pub sift_over : next_part_of s i end ≡ good none → told_next (Ok got) ≡ mapped (first_kind s k) (parts_of s start end)
+    sift_over e = found_told got ∙ ap good (none_left (found_of got)) ∙ (rw e at later.2)
       where
         none_left : (o : Option HeaderRow) → o ≡ part_or_else o none
         none_left none = refl
@@ -219,10 +207,9 @@ module _ (s : List ℕ) (k : Kind) (start end : ℕ) where
           steps = n;
           enough = omega arith;
           inside = omega arith;
-          fine = fine_more got p (part_is_kind s k (header_row_of p)) f.fine;
           gives = by (parts_from n s (p.args.end + 1) end) ∙ (rw e at g);
         }
       where
         by : (x : Told (List HeaderRow)) → mapped (λ ps. part_or_else (found_of (first_of got p (part_is_kind s k (header_row_of p)))) (first_kind s k ps)) x ≡ mapped (λ ps. part_or_else (found_of got) (first_kind s k ps)) (part_before (header_row_of p) x)
-        by (good ps) = ap good (more_found got p (part_is_kind s k (header_row_of p)) (first_kind s k ps) f.fine)
+        by (good ps) = ap good (more_found got p (part_is_kind s k (header_row_of p)) (first_kind s k ps))
         by (bad q) = refl

@@ -2,28 +2,25 @@
 -- keyword (trailing whitespace dropped); its `)` ends the part; repeat." A part is a row like a header record's: keyword start and
 -- end, argument start and end; the next part is sought after its `)`. Computed; Rules.antt has the same as rules.
 -- Assumes nothing.
-use Rattle.std.specs.Prelude.{ℕ, zero, suc, ◌+◌, ◌-◌, ◌≤◌, ◌<◌, Bool, List, [], ◌∷◌, ltb, eqb, length, take, drop}
+use Rattle.std.specs.Prelude.{ℕ, zero, suc, ◌+◌, ◌-◌, ◌≤◌, ◌<◌, Bool, List, [], ◌∷◌, ltb, eqb, length, take, drop, Option as Answer, Some, None, Result, Ok, Err}
 use Rattle.std.proofs.Math.Option.{Option, none, some}
 use Rattle.common.specs.Pick.{pick}
 use Rattle.error.specs.Refusal.{refusal, Told, good, bad}
 use Rattle.lex.specs.Byte.{place}
 use Rattle.record.specs.Text.{past}
 use Rattle.record.specs.Head.{header_head}
-use Rattle.record.specs.declared.Head.{Head}
-use Rattle.record.specs.declared.Head.TheVariants.{Bad, Complex, Simple}
+use Rattle.record.specs.declared.Named.{Named}
+use Rattle.error.specs.declared.Reason.{Reason}
 use Rattle.statement.specs.Rows.{HeaderRow, header_row, mapped}
 use Rattle.statement.specs.Row.{argued}
 use Rattle.statement.specs.declared.HeaderSpan.{HeaderSpan}
 use Rattle.kinds.specs.declared.Kind.{Kind}
 use Rattle.parts.specs.Rules.{separator, part_before, part_is_kind}
-use Rattle.parts.specs.declared.Next.{Next}
-use Rattle.parts.specs.declared.Next.TheVariants.{Is, Over, Refused}
 
 -- a part of the file s by the head of what follows the separators, which stands at the place a; where no `(` follows there is none
-abbrev pub part_by : List ℕ → ℕ → Head → Told (Option HeaderRow)
-part_by s a (Bad why) = good none
-part_by s a (Complex i o) = good none
-part_by s a (Simple i k z o) = argued s (drop (a + o) s) (λ q. some (header_row (a + k) (a + z) (a + o + 1) q))
+abbrev pub part_by : List ℕ → ℕ → Result Named Reason → Told (Option HeaderRow)
+part_by s a (Err why) = good none
+part_by s a (Ok n) = argued s (drop (a + n.opening) s) (λ q. some (header_row (a + n.start) (a + n.end) (a + n.opening + 1) q))
 
 -- "skip whitespace and commas": m are the bytes of the file s from the place `from` up to the arguments' end
 abbrev pub part_in : List ℕ → ℕ → List ℕ → Told (Option HeaderRow)
@@ -71,7 +68,6 @@ part_of s from end complex k =
     (good none)
 
 -- the part that was found before, or this one where it is of the kind
-abbrev pub first_of : Next → HeaderSpan → Bool → Next
-first_of (Is q) p hit = Is q
-first_of (Refused f) p hit = Refused f
-first_of Over p hit = pick hit (Is p) Over
+abbrev pub first_of : Answer HeaderSpan → HeaderSpan → Bool → Answer HeaderSpan
+first_of (Some q) p hit = Some q
+first_of None p hit = pick hit (Some p) None

@@ -1,6 +1,6 @@
 -- Part.antt's rules and what it computes are one: the next part that is computed is so, and nothing else is; and so are all parts.
 -- Assumes nothing.
-use Rattle.std.specs.Prelude.{ℕ, zero, suc, ◌+◌, ◌-◌, ◌≤◌, ◌<◌, ◌≡◌, refl, Bool, true, false, ◌||◌, List, [], ◌∷◌, ◌++◌, ltb, eqb, length, take, drop}
+use Rattle.std.specs.Prelude.{ℕ, zero, suc, ◌+◌, ◌-◌, ◌≤◌, ◌<◌, ◌≡◌, refl, Bool, true, false, ◌||◌, List, [], ◌∷◌, ◌++◌, ltb, eqb, length, take, drop, Result, Ok, Err}
 use Rattle.std.proofs.Common.{sym, ◌∙◌, ap, subst, append_assoc, arith, length-append, length-take, length-drop, take-append-drop, take_at, drop_at, length-take-le, lt-ltb, le-ltb, ltb-true, ltb-false, eqb-true, eq-eqb, ne_eqb}
 use Rattle.std.proofs.Math.Option.{Option, none, some}
 use Rattle.std.proofs.Math.Decide.{dec_lt}
@@ -16,8 +16,9 @@ use Rattle.record.specs.Head.{header_head}
 use Rattle.record.specs.Form.{SkippedBytes, NotFirst, Keyword, HeaderForm}
 use Rattle.record.specs.FormRight.{past_only, past_is, keyword_is, keyword_none, headerform_only}
 use Rattle.record.specs.FormRight.Parts.{sole}
-use Rattle.record.specs.declared.Head.{Head}
-use Rattle.record.specs.declared.Head.TheVariants.{Bad, Simple}
+use Rattle.record.specs.declared.Named.{Named}
+use Rattle.error.specs.declared.Reason.{Reason}
+use Rattle.error.specs.declared.Reason.TheVariants.{NoHeaderParen}
 use Rattle.statement.specs.Rows.{HeaderRow, header_row, mapped}
 use Rattle.statement.specs.Row.{argued}
 use Rattle.statement.specs.Form.{Argued}
@@ -50,7 +51,7 @@ window_ends {s} {from} {end} {m} w =
     omega arith
 
 -- the next part of a window is that of the head past its separators
-window_next : {s : List ℕ} {from end : ℕ} {f v : List ℕ} (w : BytesBetween s from end (f ++ v)) → SkippedBytes separator f v → (h : Head) → h ≡ header_head v → next_part_of s from end ≡ part_by s (from + length f) h
+window_next : {s : List ℕ} {from end : ℕ} {f v : List ℕ} (w : BytesBetween s from end (f ++ v)) → SkippedBytes separator f v → (h : Result Named Reason) → h ≡ header_head v → next_part_of s from end ≡ part_by s (from + length f) h
 unfolding next_part_of
 window_next {s} {from} {end} {f} {v} w k h e =
     let p : past separator (f ++ v) ≡ v = past_only separator f v k in
@@ -60,7 +61,7 @@ window_next {s} {from} {end} {f} {v} w k h e =
     (ap (λ (x : List ℕ). part_by s (from + place (f ++ v) x) (header_head x)) p ∙ ap (λ (n : ℕ). part_by s (from + n) (header_head v)) q ∙ ap (part_by s (from + length f)) (sym e))
 
 -- a keyword that follows separators has the head of its places
-key_head : {f v k w r : List ℕ} → SkippedBytes separator f v → Keyword v k w r → Simple 0 0 (length k) (length (k ++ w)) ≡ header_head v
+key_head : {f v k w r : List ℕ} → SkippedBytes separator f v → Keyword v k w r → Ok (record { start = 0; end = length k; opening = length (k ++ w) }) ≡ header_head v
 key_head {f} {v} p g = headerform_only (HeaderForm.named {a = []} (record { all = tt; over = not_white v p.over }) g)
 
 -- the file from a part's `(` on, by the window that it stands in
@@ -75,14 +76,14 @@ from_open s from end f v k w r m g =
 pub part_next_only : {s : List ℕ} {from end : ℕ} {a : Told (Option HeaderRow)} → NextPartForm s from end a → a ≡ next_part_of s from end
 part_next_only {s} {from} {end} (NextPartForm.outside h) = next_outside s from end h
 part_next_only {s} {from} {end} (NextPartForm.done h l) = next_done s from end h l
-part_next_only (NextPartForm.over {f} {v} w k g) = sym (window_next w k (Bad 1) (headerform_only (HeaderForm.unopened v g)))
+part_next_only (NextPartForm.over {f} {v} w k g) = sym (window_next w k (Err NoHeaderParen) (headerform_only (HeaderForm.unopened v g)))
 part_next_only {s} {from} {end} (NextPartForm.part {f} {v} {k} {w} {r} {e} m p g t) =
-    sym (window_next m p (Simple 0 0 (length k) (length (k ++ w))) (key_head p g)
+    sym (window_next m p (Ok (record { start = 0; end = length k; opening = length (k ++ w) })) (key_head p g)
     ∙ ap (λ (x : List ℕ). argued s x (λ q. some (header_row (from + length f + 0) (from + length f + length k) (from + length f + length (k ++ w) + 1) q))) (from_open s from end f v k w r m g)
     ∙ ap (mapped (λ q. some (header_row (from + length f + 0) (from + length f + length k) (from + length f + length (k ++ w) + 1) q))) (sym (argued_only t))
     ∙ ap (λ (n : ℕ). good (some (header_row n (from + length f + length k) (from + length f + length (k ++ w) + 1) e))) (omega arith))
 part_next_only {s} {from} {end} (NextPartForm.refused {f} {v} {k} {w} {r} {q} m p g t) =
-    sym (window_next m p (Simple 0 0 (length k) (length (k ++ w))) (key_head p g)
+    sym (window_next m p (Ok (record { start = 0; end = length k; opening = length (k ++ w) })) (key_head p g)
     ∙ ap (λ (x : List ℕ). argued s x (λ q. some (header_row (from + length f + 0) (from + length f + length k) (from + length f + length (k ++ w) + 1) q))) (from_open s from end f v k w r m g)
     ∙ ap (mapped (λ q. some (header_row (from + length f + 0) (from + length f + length k) (from + length f + length (k ++ w) + 1) q))) (sym (argued_only t)))
 

@@ -2,7 +2,7 @@
 -- keyword (trailing whitespace dropped); its `)` ends the part; repeat.", as rules that name no loop. A part is a row like a header record's.
 -- PartRight.antt shows that Part.antt computes just this, and that there is no other answer. Assumes nothing.
 -- Definitions to be believed: no law, and nothing computed that no theorem ties (docs/BELIEVE.md).
-use Rattle.std.specs.Prelude.{ℕ, ◌+◌, ◌-◌, ◌≤◌, ◌<◌, ◌≡◌, Bool, true, false, ◌||◌, List, [], ◌∷◌, ◌++◌, eqb, length, take, drop}
+use Rattle.std.specs.Prelude.{ℕ, ◌+◌, ◌-◌, ◌≤◌, ◌<◌, ◌≡◌, Bool, true, false, ◌||◌, List, [], ◌∷◌, ◌++◌, eqb, length, take, drop, Option as Answer, Some, None, Result, Ok, Err}
 use Rattle.std.proofs.Math.Option.{Option, none, some}
 use Rattle.error.specs.Refusal.{Refusal, refusal, Told, good, bad, told}
 use Rattle.lex.specs.Byte.{white}
@@ -12,18 +12,18 @@ use Rattle.kinds.specs.Kind.{kind_of_keyword}
 use Rattle.kinds.specs.Rules.{rank_of}
 use Rattle.kinds.specs.declared.Kind.{Kind}
 use Rattle.statement.specs.Form.{Argued}
-use Rattle.parts.specs.declared.Next.{Next}
-use Rattle.parts.specs.declared.Next.TheVariants.{Is, Over, Refused}
+use Rattle.error.specs.declared.Fault.{Fault}
+use Rattle.statement.specs.declared.HeaderSpan.{HeaderSpan}
 
 -- "whitespace and commas": what is skipped before a part
 abbrev pub separator : ℕ → Bool
 separator b = white b || eqb b 44
 
 -- what the code's answer about a part says: the part, that there is none, or a refusal
-abbrev pub told_next : Next → Told (Option HeaderRow)
-told_next (Is p) = good (some (header_row_of p))
-told_next Over = good none
-told_next (Refused f) = bad (told f)
+abbrev pub told_next : Result (Answer HeaderSpan) Fault → Told (Option HeaderRow)
+told_next (Ok (Some p)) = good (some (header_row_of p))
+told_next (Ok None) = good none
+told_next (Err f) = bad (told f)
 
 -- the bytes m of the file s from the place `from` up to the place `end`
 pub record BytesBetween (s : List ℕ) (from end : ℕ) (m : List ℕ) : Type 0 where

@@ -13,8 +13,8 @@ ghost use Rattle.record.specs.Text.{past, Numbered};
 ghost use Rattle.record.specs.Form.{Free};
 ghost use Rattle.record.specs.Head.{data_head};
 ghost use Rattle.record.specs.Within.{HeadWithin};
-ghost use Rattle.statement.specs.Rows.{told_row};
-ghost use Rattle.statement.specs.Row.{record_of, header_of, opening_of, row_at};
+ghost use Rattle.statement.specs.Rows.{told_row, header_row};
+ghost use Rattle.statement.specs.Row.{argued, record_of, header_of, opening_of, row_at};
 ghost use Rattle.statement.specs.Answer.{told_record, told_header_read, told_said, Ahead, said_in, noted_tidy, told_tidied};
 ghost use Rattle.statement.specs.Statement.{in_section, ended, begun, statement};
 ghost use Rattle.statement.specs.Tidy.{unended, tidy, tidy_by, tidy_record, TidyAhead};
@@ -22,7 +22,7 @@ ghost use Rattle.statement.specs.Usual.{is_looked_at, is_plain_byte, stops_strin
 
 use error::Fault;
 use lex::Quote;
-use record::{Head, Word};
+use record::{Head, Named, Word};
 
 // Where a statement stands: in the header, in data, or elsewhere, where records are ignored.
 #[derive(Clone, Copy, PartialEq, Eq)]
@@ -124,15 +124,12 @@ fn scan_data_record(s: &[u8], start: usize, end: usize) -> Result<RecordSpan, Fa
     Ok(row_at(start, head, args))
 }
 
-// The header record whose text runs from start up to the `;` at end.
-fn scan_header_record(s: &[u8], start: usize, end: usize) -> Result<HeaderSpan, Fault>
-    requires { (start ≤ end) × (end < length s.now) }
-    ensures { told_header_read result ≡ header_of s.now (drop start s.now) (take (end - start) (drop start s.now)) }
+// A keyword and its arguments, by the head of a text that starts at `start`: the arguments run up to the `)` that closes the head's `(`, which is
+// sought through the whole file. A header record is such a text, and a part of a complex record.
+pub fn keyed_at(s: &[u8], start: usize, head: Named) -> Result<HeaderSpan, Fault>
+    requires { (start + head.start ≤ length s.now) × (start + head.end ≤ length s.now) × (start + head.opening < length s.now) }
+    ensures { told_header_read result ≡ argued s.now (drop (start + head.opening) s.now) (λ q. header_row (start + head.start) (start + head.end) (start + head.opening + 1) q) }
 {
-    let head = match record::header_head(&s[start..end]) {
-        Ok(head) => head,
-        Err(why) => return Err(Fault::BadRecord(why, start)),
-    };
     let opening = start + head.opening;
     let close = lex::matching_paren(s, opening)?;
     Ok(HeaderSpan {
@@ -145,6 +142,17 @@ fn scan_header_record(s: &[u8], start: usize, end: usize) -> Result<HeaderSpan, 
             end: close,
         },
     })
+}
+
+// The header record whose text runs from start up to the `;` at end.
+fn scan_header_record(s: &[u8], start: usize, end: usize) -> Result<HeaderSpan, Fault>
+    requires { (start ≤ end) × (end < length s.now) }
+    ensures { told_header_read result ≡ header_of s.now (drop start s.now) (take (end - start) (drop start s.now)) }
+{
+    match record::header_head(&s[start..end]) {
+        Ok(head) => keyed_at(s, start, head),
+        Err(why) => Err(Fault::BadRecord(why, start)),
+    }
 }
 
 // A record that is no section word, from start up to its `;` at end.

@@ -19,4 +19,4 @@ pub loop-i-preserved : goal.loop-i-preserved
 loop-i-preserved c = (omega arith, past_goes c.args.t.now c.loop-i.i (omega arith) separator _ (sym c.separates.ensures ∙ c.if-not-separates.false) c.loop-i.invariant.1)
 
 pub returns : goal.returns
-returns c = record { t_value = drop_end c.args.t.now c.loop-i.i (omega arith) ∙ sym (walk_ends (past_turn separator) (λ u. []) tt c.args.t.now c.loop-i.i (omega arith)) ∙ c.loop-i.invariant.1; upper_bound = omega arith }
+returns c = record { t_value = drop_end c.args.t.now _ (omega arith) ∙ sym (walk_ends (past_turn separator) (λ u. []) tt c.args.t.now c.loop-i.i (omega arith)) ∙ c.loop-i.invariant.1; upper_bound = omega arith }
