@@ -1,12 +1,18 @@
 -- What is answered of the character that bytes begin with, and of an encoding put into lent room. Assumes nothing.
 -- Definitions to be believed: no law, and nothing computed that no theorem ties (docs/BELIEVE.md).
-use Rattle.std.specs.Prelude.{ℕ, ◌+◌, List, ◌++◌, leb, length, take, drop}
+use Rattle.std.specs.Prelude.{ℕ, ◌+◌, List, ◌++◌, leb, length, take, drop, Option, Some, None}
 use Rattle.common.specs.Pick.{pick}
+use Rattle.utf8.specs.declared.FirstCharacter.{FirstCharacter}
 
 -- what a list of bytes begins with: a character, in so many bytes, or no valid sequence
 pub data LeadCharacter : Type 0 where
   valid : ℕ → ℕ → LeadCharacter
   invalid : LeadCharacter
+
+-- what the code's answer says: the character that bytes begin with and its width, or that no valid sequence stands there
+abbrev pub told_first : Option FirstCharacter → LeadCharacter
+told_first (Some r) = valid r.code r.used
+told_first None = invalid
 
 -- the number of the character that bytes begin with, 0 where there is none
 abbrev pub code_of_lead : LeadCharacter → ℕ

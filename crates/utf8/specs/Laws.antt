@@ -385,16 +385,13 @@ part : (s : List ℕ) (i : ℕ) → take (length s - i) (drop i s) ≡ drop i s
 part s i = take_all (length s - i) (drop i s) (omega (arith, length-drop i s))
 
 -- the test of all bytes, at place i: a character of n bytes is passed
-pub valid_here : (s : List ℕ) (i n : ℕ) → i ≤ length s → n ≡ used_of_lead (lead_of (take (length s - i) (drop i s))) → (n ≡ 0 → ⊥)
-    → (i + n ≤ length s) × (valid_of (drop i s) ≡ valid_of (drop (i + n) s))
-valid_here s i n h e ne =
-    let e' : n ≡ used_of_lead (lead_of (drop i s)) = e ∙ ap (λ (x : List ℕ). used_of_lead (lead_of x)) (part s i) in
-    let l : lead_of (drop i s) ≡ valid (code_of_lead (lead_of (drop i s))) n = used_some (drop i s) n e' ne in
-    let (p, q) = used_within (drop i s) (code_of_lead (lead_of (drop i s))) n l in
-    (omega (arith, length-drop i s), valid_after (drop i s) (code_of_lead (lead_of (drop i s))) n l ∙ ap valid_of (drop-drop n i s))
+pub valid_here : (s : List ℕ) (i c n : ℕ) → i ≤ length s → valid c n ≡ lead_of (take (length s - i) (drop i s))
+    → (0 < n) × (i + n ≤ length s) × (valid_of (drop i s) ≡ valid_of (drop (i + n) s))
+valid_here s i c n h e =
+    let l : lead_of (drop i s) ≡ valid c n = sym (e ∙ ap lead_of (part s i)) in
+    let (p, q) = used_within (drop i s) c n l in
+    (omega arith, omega (arith, length-drop i s), valid_after (drop i s) c n l ∙ ap valid_of (drop-drop n i s))
 
 -- the test of all bytes, at place i: where no sequence begins, it fails
-pub valid_fails : (s : List ℕ) (i n : ℕ) → i < length s → n ≡ used_of_lead (lead_of (take (length s - i) (drop i s))) → n ≡ 0 → valid_of (drop i s) ≡ false
-valid_fails s i n h e z =
-    let e' : 0 ≡ used_of_lead (lead_of (drop i s)) = sym z ∙ e ∙ ap (λ (x : List ℕ). used_of_lead (lead_of x)) (part s i) in
-    valid_stops (drop i s) (omega (arith, length-drop i s)) (used_none (drop i s) e')
+pub valid_fails : (s : List ℕ) (i : ℕ) → i < length s → invalid ≡ lead_of (take (length s - i) (drop i s)) → valid_of (drop i s) ≡ false
+valid_fails s i h e = valid_stops (drop i s) (omega (arith, length-drop i s)) (sym (e ∙ ap lead_of (part s i)))

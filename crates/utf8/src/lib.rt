@@ -4,11 +4,11 @@
 
 ghost use Rattle.std.specs.Prelude.{◌≡◌, ◌+◌, ◌≤◌, ◌<◌, length, true};
 ghost use Rattle.std.proofs.lemmas.List.Edits.{sets};
-ghost use Rattle.utf8.specs.Utf8.{scalar, encode, byte_at, tail, least_second, highest, second_in_range, lead_two, lead_three, lead_four, lead_of, valid_of};
-ghost use Rattle.utf8.specs.Answer.{code_of_lead, used_of_lead, put_at, put_width};
+ghost use Rattle.utf8.specs.Utf8.{scalar, encode, byte_at, tail, second_in_range, lead_two, lead_three, lead_four, lead_of, valid_of};
+ghost use Rattle.utf8.specs.Answer.{told_first, put_at, put_width};
 
-// A character, and how many bytes stand for it; both 0 where no valid sequence stands.
-#[derive(Clone, Copy)]
+// A character, and how many bytes stand for it.
+#[derive(Clone, Copy, PartialEq, Eq)]
 pub struct FirstCharacter {
     pub code: u32,
     pub used: usize,
@@ -40,11 +40,7 @@ pub fn width(code: u32) -> usize
 fn byte_at(bytes: &[u8], k: usize) -> u32
     ensures { result ≡ byte_at bytes.now k }
 {
-    if k < bytes.len() {
-        bytes[k] as u32
-    } else {
-        256
-    }
+    bytes.get(k).map_or(256, |b| u32::from(*b))
 }
 
 // `UTF8-tail = %x80-BF`.
@@ -54,95 +50,69 @@ fn is_tail(b: u32) -> bool
     (128 <= b) & (b <= 191)
 }
 
-// The least byte that may stand second: no longer form than needed.
-fn lowest_second(a: u32) -> u32
-    ensures { result ≡ least_second a }
-{
-    if a == 224 {
-        return 160;
-    }
-    if a == 240 {
-        return 144;
-    }
-    128
-}
-
-// The greatest byte that may stand second: no surrogate, nothing above 10FFFF.
-fn highest_second(a: u32) -> u32
-    ensures { result ≡ highest a }
-{
-    if a == 237 {
-        return 159;
-    }
-    if a == 244 {
-        return 143;
-    }
-    191
-}
-
-// Whether b may stand second after the first byte a.
+// Whether b may stand second after the first byte a: no longer form than needed, no surrogate, nothing above 10FFFF.
 fn is_second(a: u32, b: u32) -> bool
     ensures { result ≡ second_in_range a b }
 {
-    (lowest_second(a) <= b) & (b <= highest_second(a))
-}
-
-// No valid sequence.
-fn nothing() -> FirstCharacter
-    ensures { (result.code ≡ 0) × (result.used ≡ 0) }
-{
-    FirstCharacter { code: 0, used: 0 }
+    let (least, greatest) = match a {
+        224 => (160, 191),
+        237 => (128, 159),
+        240 => (144, 191),
+        244 => (128, 143),
+        _ => (128, 191),
+    };
+    (least <= b) & (b <= greatest)
 }
 
 // The character of two bytes, whose first is C2 to DF.
-fn two(a: u32, b: u32) -> FirstCharacter
+fn two(a: u32, b: u32) -> Option<FirstCharacter>
     requires { (194 ≤ a) × (a ≤ 223) }
-    ensures { (result.code ≡ code_of_lead (lead_two a b)) × (result.used ≡ used_of_lead (lead_two a b)) }
+    ensures { told_first result ≡ lead_two a b }
 {
     if is_tail(b) {
-        return FirstCharacter {
+        return Some(FirstCharacter {
             code: (a - 192) * 64 + (b - 128),
             used: 2,
-        };
+        });
     }
-    nothing()
+    None
 }
 
 // The character of three bytes, whose first is E0 to EF.
-fn three(a: u32, b: u32, c: u32) -> FirstCharacter
+fn three(a: u32, b: u32, c: u32) -> Option<FirstCharacter>
     requires { (224 ≤ a) × (a ≤ 239) }
-    ensures { (result.code ≡ code_of_lead (lead_three a b c)) × (result.used ≡ used_of_lead (lead_three a b c)) }
+    ensures { told_first result ≡ lead_three a b c }
 {
     if is_second(a, b) & is_tail(c) {
-        return FirstCharacter {
+        return Some(FirstCharacter {
             code: (a - 224) * 4096 + (b - 128) * 64 + (c - 128),
             used: 3,
-        };
+        });
     }
-    nothing()
+    None
 }
 
 // The character of four bytes, whose first is F0 to F4.
-fn four(a: u32, b: u32, c: u32, d: u32) -> FirstCharacter
+fn four(a: u32, b: u32, c: u32, d: u32) -> Option<FirstCharacter>
     requires { (240 ≤ a) × (a ≤ 244) }
-    ensures { (result.code ≡ code_of_lead (lead_four a b c d)) × (result.used ≡ used_of_lead (lead_four a b c d)) }
+    ensures { told_first result ≡ lead_four a b c d }
 {
     if is_second(a, b) & is_tail(c) & is_tail(d) {
-        return FirstCharacter {
+        return Some(FirstCharacter {
             code: (a - 240) * 262144 + (b - 128) * 4096 + (c - 128) * 64 + (d - 128),
             used: 4,
-        };
+        });
     }
-    nothing()
+    None
 }
 
 // The character that the bytes begin with.
-pub fn sequence(bytes: &[u8]) -> FirstCharacter
-    ensures { (result.code ≡ code_of_lead (lead_of bytes.now)) × (result.used ≡ used_of_lead (lead_of bytes.now)) }
+pub fn sequence(bytes: &[u8]) -> Option<FirstCharacter>
+    ensures { told_first result ≡ lead_of bytes.now }
 {
     let a = byte_at(bytes, 0);
     if a < 128 {
-        return FirstCharacter { code: a, used: 1 };
+        return Some(FirstCharacter { code: a, used: 1 });
     }
     if (194 <= a) & (a <= 223) {
         return two(a, byte_at(bytes, 1));
@@ -153,9 +123,11 @@ pub fn sequence(bytes: &[u8]) -> FirstCharacter
     if (240 <= a) & (a <= 244) {
         return four(a, byte_at(bytes, 1), byte_at(bytes, 2), byte_at(bytes, 3));
     }
-    nothing()
+    None
 }
 
+// Kept: the library's `encode_utf8` lends the room back as text, and no clause then says what the room holds. The four differ in the bytes that
+// they store.
 // Stores the table's first line: the number itself.
 fn put_one(out: &mut [u8], at: usize, code: u32)
     requires { (at + 1 ≤ length out.old) × (code < 128) }
@@ -220,6 +192,7 @@ pub fn put(out: &mut [u8], at: usize, code: u32) -> usize
 }
 
 // Whether the bytes are UTF-8: one valid sequence after another. A byte below 128 is one by itself.
+// Kept: the loop goes on by the width of what it finds, which no `for` counts.
 pub fn is_valid(bytes: &[u8]) -> bool
     ensures { result ≡ valid_of bytes.now }
 {
@@ -228,11 +201,10 @@ pub fn is_valid(bytes: &[u8]) -> bool
         if bytes[i] < 128 {
             i += 1;
         } else {
-            let used = sequence(&bytes[i..]).used;
-            if used == 0 {
+            let Some(c) = sequence(&bytes[i..]) else {
                 return false;
-            }
-            i += used;
+            };
+            i += c.used;
         }
     }
     true

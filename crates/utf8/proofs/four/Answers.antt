@@ -28,7 +28,7 @@ pub overflow_add-result-then-is_second-is_tail-2 : goal.overflow_add-result-then
 overflow_add-result-then-is_second-is_tail-2 c = omega (arith, four_tests c.args.a c.args.b c.args.c c.args.d c.is_second.result c.is_tail.result c.is_tail-2.result c.is_second.ensures c.is_tail.ensures c.is_tail-2.ensures c.if-is_second-is_tail.true)
 
 pub returns-then-is_second-is_tail : goal.returns-then-is_second-is_tail
-returns-then-is_second-is_tail c = rw (four_tests c.args.a c.args.b c.args.c c.args.d c.is_second.result c.is_tail.result c.is_tail-2.result c.is_second.ensures c.is_tail.ensures c.is_tail-2.ensures c.if-is_second-is_tail.true).0 (refl, refl)
+returns-then-is_second-is_tail c = rw (four_tests c.args.a c.args.b c.args.c c.args.d c.is_second.result c.is_tail.result c.is_tail-2.result c.is_second.ensures c.is_tail.ensures c.is_tail-2.ensures c.if-is_second-is_tail.true).0 refl
 
 pub returns : goal.returns
-returns c = rw (← c.is_second.ensures, ← c.is_tail.ensures, ← c.is_tail-2.ensures, c.if-is_second-is_tail.false) c.nothing.ensures
+returns c = rw (← c.is_second.ensures, ← c.is_tail.ensures, ← c.is_tail-2.ensures, c.if-is_second-is_tail.false) refl

@@ -19,7 +19,7 @@ pub overflow_add-result-then-is_second-is_tail : goal.overflow_add-result-then-i
 overflow_add-result-then-is_second-is_tail c = omega (arith, three_tests c.args.a c.args.b c.args.c c.is_second.result c.is_tail.result c.is_second.ensures c.is_tail.ensures c.if-is_second-is_tail.true)
 
 pub returns-then-is_second-is_tail : goal.returns-then-is_second-is_tail
-returns-then-is_second-is_tail c = rw (three_tests c.args.a c.args.b c.args.c c.is_second.result c.is_tail.result c.is_second.ensures c.is_tail.ensures c.if-is_second-is_tail.true).0 (refl, refl)
+returns-then-is_second-is_tail c = rw (three_tests c.args.a c.args.b c.args.c c.is_second.result c.is_tail.result c.is_second.ensures c.is_tail.ensures c.if-is_second-is_tail.true).0 refl
 
 pub returns : goal.returns
-returns c = rw (← c.is_second.ensures, ← c.is_tail.ensures, c.if-is_second-is_tail.false) c.nothing.ensures
+returns c = rw (← c.is_second.ensures, ← c.is_tail.ensures, c.if-is_second-is_tail.false) refl

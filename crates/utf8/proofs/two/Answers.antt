@@ -10,7 +10,7 @@ pub overflow_add-result : goal.overflow_add-result
 overflow_add-result c = omega (arith, tail_byte c.args.b (sym c.is_tail.ensures ∙ c.if-is_tail.true))
 
 pub returns-then-is_tail : goal.returns-then-is_tail
-returns-then-is_tail c = rw (sym c.is_tail.ensures ∙ c.if-is_tail.true) (refl, refl)
+returns-then-is_tail c = rw (sym c.is_tail.ensures ∙ c.if-is_tail.true) refl
 
 pub returns : goal.returns
-returns c = rw (sym c.is_tail.ensures ∙ c.if-is_tail.false) c.nothing.ensures
+returns c = rw (sym c.is_tail.ensures ∙ c.if-is_tail.false) refl
