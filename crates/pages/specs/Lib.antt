@@ -2,4 +2,3 @@ pub mod Tables
 pub mod Pages
 pub mod Rules
 pub mod Right
-pub mod Packed

@@ -5,6 +5,7 @@ use Rattle.std.proofs.Common.{sym, ◌∙◌, ap, subst, arith, le-leb, le-ltb, 
 use Rattle.std.proofs.Math.Decide.{dec_lt}
 use Rattle.std.proofs.lemmas.Bool.{lt-leb}
 use Rattle.std.proofs.Math.ListN.{get_or-eq_default}
+use Rattle.std.proofs.lemmas.List.{get_or_default}
 use Rattle.common.specs.Pick.{pick}
 use Rattle.common.specs.Tests.{both, in_range, neither}
 use Rattle.utf8.specs.Utf8.{scalar}
@@ -162,6 +163,14 @@ past p h = omega (arith, all_whole.0)
 pub entry_none : (p n : ℕ) → 9 ≤ p → 0xFFFD ≡ Tables.page_entry p n
 unfolding Tables.page_entry
 entry_none p n h = ap (λ (t : List ℕ). get_or t (n - 0xA0) 0xFFFD) (sym (get_or-eq_default Tables.pages [] (past p h)))
+
+-- the character of a code from A0 to FF is the one that stands in the page's table
+pub entry_listed : (p k : ℕ) → p < 9 → k < 96 → get_or (get_or Tables.pages p []) k 0 ≡ Tables.page_entry p (0xA0 + k)
+unfolding Tables.page_entry
+entry_listed p k h l =
+    let e = eqb-true (length (get_or Tables.pages p [])) 96 (every_in has_all_codes Tables.pages p all_whole.1 (omega (arith, all_whole.0))) in
+    let z : k ≡ 0xA0 + k - 0xA0 = omega arith in
+    get_or_default (get_or Tables.pages p []) k 0 0xFFFD (omega arith) ∙ ap (λ (n : ℕ). get_or (get_or Tables.pages p []) n 0xFFFD) z
 
 -- a code above FF is not defined on any page
 pub entry_past : (p n : ℕ) → 0xFF < n → 0xFFFD ≡ Tables.page_entry p n

@@ -1,7 +1,17 @@
-use native.Mathlib.Omega.{arith}
-use Prim.Native.Nat.{◌+◌, ◌-◌}
-use Rattle.pages.specs.Right.{entry_below, code_first, code_same, code_listed}
+use Rattle.std.proofs.Common.{◌≡◌, ℕ, ◌+◌, ◌-◌, ◌<◌, List, [], get_or, refl, ◌∙◌, ap, arith}
+use Rattle.pages.specs.declared.tables.TheConstants.{PAGES}
+use Rattle.pages.specs.Tables.{pages, latin1, latin2, latin3, latin4, cyrillic, arabic, greek, hebrew, latin5, page_entry}
+use Rattle.pages.specs.Right.{code_first, code_same, code_listed, entry_none, entry_listed}
 use Rattle.pages.proofs.code_on.Goals as goal
+
+-- the code's tables are the pages
+held : PAGES ≡ pages
+unfolding pages latin1 latin2 latin3 latin4 cyrillic arabic greek hebrew latin5
+held = refl
+
+-- a character read from the code's tables is the page's
+listed : (p k r : ℕ) → p < 9 → k < 96 → r ≡ get_or (get_or PAGES p []) k 0 → r ≡ page_entry p (0xA0 + k)
+listed p k r h l e = e ∙ ap (λ (t : List (List ℕ)). get_or (get_or t p []) k 0) held ∙ entry_listed p k h l
 
 pub returns-then-page-eq0 : goal.returns-then-page-eq0
 returns-then-page-eq0 c = code_first c.args.page c.args.sum (omega arith)
@@ -9,13 +19,11 @@ returns-then-page-eq0 c = code_first c.args.page c.args.sum (omega arith)
 pub returns-then-sum : goal.returns-then-sum
 returns-then-sum c = let a = c.args in code_same a.page a.sum c.if-sum.true
 
-pub overflow_sub-sum : goal.overflow_sub-sum
-overflow_sub-sum c = let a = c.args in (code_listed a.page a.sum c.if-sum.false).0.0
-
-pub overflow_cast-result : goal.overflow_cast-result
-overflow_cast-result c = let a = c.args in let b = entry_below a.page (160 + (a.sum - 160)) in omega (arith, c.listed.ensures)
+pub returns-then-page-ge9 : goal.returns-then-page-ge9
+returns-then-page-ge9 c = let a = c.args in (code_listed a.page a.sum c.if-sum.false).1 _ (entry_none a.page _ (omega arith))
 
 pub returns : goal.returns
 returns c =
     let a = c.args in
-    (code_listed a.page a.sum c.if-sum.false).1 c.listed.result c.listed.ensures
+    let q = code_listed a.page a.sum c.if-sum.false in
+    q.1 c.from.result (listed a.page (a.sum - 160) c.from.result (omega arith) (omega (arith, q.0)) c.from.ensures)
