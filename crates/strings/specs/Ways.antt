@@ -10,8 +10,7 @@ use Rattle.common.specs.Pick.{pick}
 use Rattle.common.specs.Tests.{both}
 use Rattle.utf8.specs.Utf8.{byte_at, lead_of}
 use Rattle.utf8.specs.Encoding.{encode_all}
-use Rattle.utf8.specs.Answer.{valid, code_of_lead, used_of_lead}
-use Rattle.utf8.specs.Laws.{used_none, used_some}
+use Rattle.utf8.specs.Answer.{valid, invalid}
 use Rattle.pages.specs.Pages.{page_of, code_of}
 use Rattle.pages.specs.Rules.{page_a}
 use Rattle.strings.specs.Text
@@ -109,19 +108,18 @@ module _ (g : ℕ) (s : List ℕ) (n0 : eqb (byte_at s 0) 92 ≡ false) (b d : �
         rw (n0, twice false n1, u, eb) refl
 
     -- a byte from 80 up with which no sequence begins: "else Latin-1"
-    pub is_latin : 128 ≤ b → 0 ≡ used_of_lead (lead_of s) → one_view b 1 ≡ view_of (Text.piece_of g s)
+    pub is_latin : 128 ≤ b → invalid ≡ lead_of s → one_view b 1 ≡ view_of (Text.piece_of g s)
     unfolding Text.piece_of
     is_latin h k =
         let u : ltb (byte_at s 0) 128 ≡ false = rw (sym eb) (le-ltb b 128 h) in
-        rw (n0, twice false n1, u, used_none s k, eb) refl
+        rw (n0, twice false n1, u, sym k, eb) refl
 
     -- a byte from 80 up with which a sequence begins: "a valid UTF-8 sequence"
-    pub is_sequence : (c n : ℕ) → 128 ≤ b → c ≡ code_of_lead (lead_of s) → n ≡ used_of_lead (lead_of s) → (n ≡ 0 → ⊥) → one_view c n ≡ view_of (Text.piece_of g s)
+    pub is_sequence : (c n : ℕ) → 128 ≤ b → valid c n ≡ lead_of s → one_view c n ≡ view_of (Text.piece_of g s)
     unfolding Text.piece_of
-    is_sequence c n h e k p =
+    is_sequence c n h e =
         let u : ltb (byte_at s 0) 128 ≡ false = rw (sym eb) (le-ltb b 128 h) in
-        let l : lead_of s ≡ valid (code_of_lead (lead_of s)) n = used_some s n k p in
-        let q : Text.raw_of (byte_at s 0) (lead_of s) ≡ Text.gives (c ∷ []) n = ap (Text.raw_of (byte_at s 0)) l ∙ ap (λ (w : ℕ). Text.gives (w ∷ []) n) (sym e) in
+        let q : Text.raw_of (byte_at s 0) (lead_of s) ≡ Text.gives (c ∷ []) n = ap (Text.raw_of (byte_at s 0)) (sym e) in
         rw (n0, twice false n1, u, q) refl
 
 -- a piece has been read where another one has that writes and reads the same

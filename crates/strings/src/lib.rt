@@ -18,15 +18,13 @@ ghost use Rattle.strings.specs.Text.{hex_digit, hex_value, two_at, two_of, four_
 ghost use Rattle.strings.specs.Code.{told_group, one_view, view_of, PiecePut, PlainPassed, PlainPut, Turned};
 ghost use Rattle.strings.specs.Answer.{decoded_of, room_after, shown_of, told_text, answer_of, largest_u64};
 ghost use Rattle.strings.specs.Put.{Laid};
+ghost use Rattle.strings.specs.PlainRuns.{special};
 
 // The byte at a place, or 256, which is no byte, past the end.
 fn byte_at(s: &[u8], k: usize) -> u32
     ensures { result ≡ byte_at s.now k }
 {
-    if k < s.len() {
-        return s[k] as u32;
-    }
-    256
+    s.get(k).map_or(256, |b| u32::from(*b))
 }
 
 // Whether a byte is a hex digit.
@@ -179,17 +177,21 @@ fn closing_len(s: &[u8]) -> usize
     0
 }
 
+// Whether a byte is not the text as it stands: a quote, a backslash or a high byte.
+fn is_special(b: u8) -> bool
+    ensures { result ≡ special b }
+{
+    (b == 39) | ((b == 92) | (128 <= b))
+}
+
 // Whether one of 64 bytes is not the text as it stands. It only notes one, so that the compiler takes many bytes at a time.
 fn block_differs(s: &[u8], at: usize) -> bool
     requires { at + 64 ≤ length s.now }
     ensures { result ≡ false → plain (take at s.now) ≡ true → plain (take (at + 64) s.now) ≡ true }
 {
     let mut hit = false;
-    let mut k = 0;
-    while k < 64 {
-        let b = s[at + k];
-        hit = hit | ((b == 39) | ((b == 92) | (128 <= b)));
-        k += 1;
+    for k in 0..64 {
+        hit |= is_special(s[at + k]);
     }
     hit
 }
@@ -214,15 +216,12 @@ fn plain_to(s: &[u8], from: usize, to: usize) -> usize
     requires { (from ≤ to) × (to ≤ length s.now) × (plain (take from s.now) ≡ true) }
     ensures { PlainPassed s.now to result }
 {
-    let mut i = from;
-    while i < to {
-        let b = s[i];
-        if (b == 39) | ((b == 92) | (128 <= b)) {
+    for i in from..to {
+        if is_special(s[i]) {
             return i;
         }
-        i += 1;
     }
-    i
+    to
 }
 
 // How many bytes from the start on are the text as they stand. A short run is found without the blocks.
@@ -245,21 +244,7 @@ fn copy(s: &[u8], n: usize, out: &mut [u8], at: usize)
     requires { (n ≤ length s.now) × (at + n ≤ length out.old) }
     ensures { out.new ≡ paste out.old at s.now n }
 {
-    let mut k = 0;
-    while k < n {
-        out[at + k] = s[k];
-        k += 1;
-    }
-}
-
-// A place so many bytes further; the largest number where that is none.
-fn plus(at: usize, n: usize) -> usize
-    ensures { result ≡ min largest_u64 (at + n) }
-{
-    if 18446744073709551615 - at < n {
-        return 18446744073709551615;
-    }
-    at + n
+    out[at..at + n].copy_from_slice(&s[..n]);
 }
 
 // Puts the first bytes where they fit, and counts them wherever they stand.
@@ -267,7 +252,7 @@ fn lay(s: &[u8], n: usize, out: &mut [u8], at: usize) -> usize
     requires { n ≤ length s.now }
     ensures { Laid at out.old (take n s.now) result out.new }
 {
-    let end = plus(at, n);
+    let end = at.saturating_add(n);
     if end <= out.len() {
         copy(s, n, out, at);
         return end;
@@ -321,13 +306,12 @@ fn ordinary(s: &[u8]) -> Char
     if b < 128 {
         return Char { code: b, used: 1 };
     }
-    let q = utf8::sequence(s);
-    if q.used == 0 {
-        return Char { code: b, used: 1 };
-    }
-    Char {
-        code: q.code,
-        used: q.used,
+    match utf8::sequence(s) {
+        Some(c) => Char {
+            code: c.code,
+            used: c.used,
+        },
+        None => Char { code: b, used: 1 },
     }
 }
 
@@ -339,7 +323,7 @@ fn put_char(out: &mut [u8], at: usize, code: u32) -> usize
     if u != 0 {
         return at + u;
     }
-    plus(at, utf8::width(code))
+    at.saturating_add(utf8::width(code))
 }
 
 // The bytes counted so far, and how many bytes of the string were read for a piece.
@@ -456,34 +440,19 @@ fn step(s: &[u8], page: usize, out: &mut [u8], at: usize) -> Advance
     }
 }
 
-// How many of so many bytes fit from a place on.
-fn fitting(room: usize, at: usize, n: usize) -> usize
-    ensures { (result ≤ n) × (result ≤ room - at) }
-{
-    if room < at {
-        return 0;
-    }
-    if n < room - at {
-        return n;
-    }
-    room - at
-}
-
 // Copies plain bytes up to one that is not, or so many.
 fn follow(s: &[u8], m: usize, out: &mut [u8], at: usize) -> usize
     requires { (m ≤ length s.now) × (m ≤ length out.old - at) }
     ensures { (result ≤ m) × (plain (take result s.now) ≡ true) × (out.new ≡ paste out.old at s.now result) }
 {
-    let mut k = 0;
-    while k < m {
+    for k in 0..m {
         let b = s[k];
-        if (b == 39) | ((b == 92) | (128 <= b)) {
+        if is_special(b) {
             return k;
         }
         out[at + k] = b;
-        k += 1;
     }
-    k
+    m
 }
 
 // The plain bytes at the start: copied while they are found, as a run between two pieces is mostly short; where no room is left they are
@@ -491,7 +460,7 @@ fn follow(s: &[u8], m: usize, out: &mut [u8], at: usize) -> usize
 fn plain_run(s: &[u8], out: &mut [u8], at: usize) -> Reached
     ensures { PlainPut s.now at out.old result.at result.used out.new }
 {
-    let m = fitting(out.len(), at, s.len());
+    let m = s.len().min(out.len().saturating_sub(at));
     let k = follow(s, m, out, at);
     if k < m {
         return Reached {

@@ -8,6 +8,3 @@ use Rattle.strings.proofs.block_differs.Given as goal
 
 abbrev pub invariant-loop-k : goal.invariant-loop-k
 invariant-loop-k l = Noting (λ j. plain (take l.at l.s) ≡ true → plain (take j l.s) ≡ true) 64 l.hit l.at l.k
-
-abbrev pub decreases-loop-k : goal.decreases-loop-k
-decreases-loop-k l = 64 - l.k

@@ -8,6 +8,3 @@ use Rattle.strings.proofs.follow.Given as goal
 
 abbrev pub invariant-loop-k : goal.invariant-loop-k
 invariant-loop-k l = (l.k ≤ l.m) × (length l.out ≡ length l.initial.out) × (plain (take l.k l.s) ≡ true) × (l.out ≡ paste l.initial.out l.at l.s l.k)
-
-abbrev pub decreases-loop-k : goal.decreases-loop-k
-decreases-loop-k l = l.m - l.k

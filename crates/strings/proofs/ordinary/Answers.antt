@@ -8,8 +8,8 @@ returns-then-b-byte_at c = λ g. is_quote g c.args.s.now c.requires c.byte_at-b.
 pub returns-then-b-lt128 : goal.returns-then-b-lt128
 returns-then-b-lt128 c = λ g. is_ascii g c.args.s.now c.requires c.byte_at-b.result c.byte_at.result c.byte_at-b.ensures c.byte_at.ensures c.if-b-byte_at.false (omega arith)
 
-pub returns-then-q-eq0 : goal.returns-then-q-eq0
-returns-then-q-eq0 c = λ g. is_latin g c.args.s.now c.requires c.byte_at-b.result c.byte_at.result c.byte_at-b.ensures c.byte_at.ensures c.if-b-byte_at.false (omega arith) (omega (arith, c.sequence-q.ensures.1))
+pub returns-in-Some : goal.returns-in-Some
+returns-in-Some c = λ g. is_sequence g c.args.s.now c.requires c.byte_at-b.result c.byte_at.result c.byte_at-b.ensures c.byte_at.ensures c.if-b-byte_at.false _ _ (omega arith) (rw c.in-Some.is at c.sequence.ensures)
 
-pub returns : goal.returns
-returns c = λ g. is_sequence g c.args.s.now c.requires c.byte_at-b.result c.byte_at.result c.byte_at-b.ensures c.byte_at.ensures c.if-b-byte_at.false _ _ (omega arith) c.sequence-q.ensures.0 c.sequence-q.ensures.1 (omega arith)
+pub returns-in-None : goal.returns-in-None
+returns-in-None c = λ g. is_latin g c.args.s.now c.requires c.byte_at-b.result c.byte_at.result c.byte_at-b.ensures c.byte_at.ensures c.if-b-byte_at.false (omega arith) (rw c.in-None.is at c.sequence.ensures)

@@ -11,13 +11,13 @@ returns-then-k-m c =
     let a = c.args in
     let s = a.s.now in
     let k = c.follow-k.result in
-    let l = put_part a.at a.out.now s k c.follow-k.new.out (omega arith) (omega arith) (omega (arith, c.follow-k.ensures.0, c.fitting-m.ensures.0)) (omega (arith, c.follow-k.ensures.0, c.fitting-m.ensures.1)) c.follow-k.ensures.2 in
-    record { within = omega (arith, c.follow-k.ensures.0, c.fitting-m.ensures.0); plainly = c.follow-k.ensures.1; put = l }
+    let l = put_part a.at a.out.now s k c.follow-k.new.out (omega arith) (omega arith) (omega (arith, c.follow-k.ensures.0, c.min-m.ensures)) (omega (arith, c.follow-k.ensures.0, c.min-m.ensures)) c.follow-k.ensures.2 in
+    record { within = omega (arith, c.follow-k.ensures.0, c.min-m.ensures); plainly = c.follow-k.ensures.1; put = l }
 
 pub returns : goal.returns
 returns c =
     let a = c.args in
     let s = a.s.now in
     let k = c.follow-k.result in
-    let l = put_part a.at a.out.now s k c.follow-k.new.out (omega arith) (omega arith) (omega (arith, c.follow-k.ensures.0, c.fitting-m.ensures.0)) (omega (arith, c.follow-k.ensures.0, c.fitting-m.ensures.1)) c.follow-k.ensures.2 in
-    plain_put_on s a.at a.out.now k (a.at + k) c.follow-k.new.out (take (length s - k) (drop k s)) c.plain_len-n.result c.lay.result c.lay.new.out (omega arith) (omega (arith, c.follow-k.ensures.0, c.fitting-m.ensures.0)) (rest_is s k) c.follow-k.ensures.1 l c.plain_len-n.ensures.within c.plain_len-n.ensures.plainly c.lay.ensures
+    let l = put_part a.at a.out.now s k c.follow-k.new.out (omega arith) (omega arith) (omega (arith, c.follow-k.ensures.0, c.min-m.ensures)) (omega (arith, c.follow-k.ensures.0, c.min-m.ensures)) c.follow-k.ensures.2 in
+    plain_put_on s a.at a.out.now k (a.at + k) c.follow-k.new.out (take (length s - k) (drop k s)) c.plain_len-n.result c.lay.result c.lay.new.out (omega arith) (omega (arith, c.follow-k.ensures.0, c.min-m.ensures)) (rest_is s k) c.follow-k.ensures.1 l c.plain_len-n.ensures.within c.plain_len-n.ensures.plainly c.lay.ensures

@@ -18,4 +18,4 @@ returns-then-u-ne0 c =
 pub returns : goal.returns
 returns c =
     let a = c.args in
-    put_one a.at a.out.now a.code c.width.result _ c.put-u.new.out c.width.ensures c.put-u.ensures.out_after c.plus.ensures
+    put_one a.at a.out.now a.code c.width.result c.saturating_add.result c.put-u.new.out c.width.ensures c.put-u.ensures.out_after (omega (arith, c.saturating_add.ensures))
