@@ -1,6 +1,6 @@
 -- m * 10 ^ k and m / 10 ^ k, cut below the digits that the code computes: 10 ^ k is 5 ^ k * 2 ^ k, and a power of two moves nothing but
 -- the place. Laws for the proofs; of this file promises name `halvings_of`, `five_lift` and `Reciprocal` alone. Assumes nothing.
-use Rattle.std.specs.Prelude.{ℕ, zero, suc, ◌+◌, ◌-◌, ◌*◌, ◌/◌, ◌%◌, ◌^◌, ◌≤◌, ◌<◌, ◌≡◌, refl, Bool, true, not, ◌&&◌, T, eqb, leb, ltb}
+use Rattle.std.specs.Prelude.{ℕ, zero, suc, ◌+◌, ◌-◌, ◌*◌, ◌/◌, ◌%◌, ◌^◌, ◌≤◌, ◌<◌, ◌≡◌, refl, Bool, true, not, ◌&&◌, T, eqb, leb, ltb, get_or}
 use Rattle.std.proofs.Common.{sym, ◌∙◌, ap, subst, add-mul, mul_assoc, mul_comm, mul_left_comm, mul_right_comm, one-mul, mul-pos, mul-le-mul, mul-lt-mul_of_pos_right, lt_of_mul-lt-mul_right, lt_of_le_of_lt, suc-mul, zero-mul, mul-one, mul-suc, mul-le-mul_left, mul-le-mul_right, le_of_mul-le-mul_right, le_trans, mod-eq_of_lt, arith, lt-ltb, ne_eqb, leb→le, eqb→eq, pow_pos, pow-add}
 use Rattle.std.proofs.Math.Nat.{one-le-pow, pow-le-pow_right}
 use Rattle.std.proofs.Math.Decide.{dec_lt}
@@ -11,6 +11,7 @@ use Rattle.nearest.specs.PowerLaws.{ten_pos, tens}
 use Rattle.wide_reals.specs.LongArithmetic.{moved_up_bounds}
 use Rattle.f64_rounding.specs.CutNumbers.{CutNumber, WithinTwoUnits}
 use Rattle.wide_reals.specs.Reach.{reach, far}
+use Rattle.wide_reals.specs.declared.TheConstants.{RECIPROCALS}
 
 -- something is left of r just where it is left of r times a power of two
 pub left_of : (r k : ℕ) → not (eqb r 0) ≡ ltb 0 (r * 2 ^ k)
@@ -168,6 +169,18 @@ reciprocal_found k j r e t =
       not_above = leb→le (r * d) n (and_l b c (and_r a (b && c) t));
       not_below = leb→le n (suc r * d) (and_r b c (and_r a (b && c) t));
     }
+
+-- the entry of the table of reciprocals for k, as a test
+abbrev table_right : ℕ → Bool
+table_right k = is_reciprocal (5 ^ k) (2 ^ (64 + halvings_of k)) (get_or RECIPROCALS k 0)
+
+-- each entry of the table of reciprocals is right: one test that antt computes
+all_reciprocals : T (each table_right (suc far))
+all_reciprocals = tt
+
+-- the entry of the table of reciprocals for k is a reciprocal of 5 ^ k
+pub reciprocal_at : (k : ℕ) → k ≤ far → Reciprocal k (get_or RECIPROCALS k 0)
+reciprocal_at k h = reciprocal_found k k (get_or RECIPROCALS k 0) refl (each_at table_right (suc far) k all_reciprocals (omega arith))
 
 -- r times d is 2 ^ (64 + e), or below that by less than d; high is the upper half of n times r
 module _ (n r d e high low : ℕ) (product : high * 2 ^ 64 + low ≡ n * r) (above : r * d ≤ 2 ^ (64 + e)) (below : 2 ^ (64 + e) ≤ suc r * d) where
