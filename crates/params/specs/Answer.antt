@@ -2,7 +2,7 @@
 -- Definitions to be believed: no law, and nothing computed that no theorem ties (docs/BELIEVE.md).
 use Rattle.std.specs.Prelude.{ℕ, ◌≤◌, List, Bool, ◌&&◌, Result, Ok, Err, leb, length, drop}
 use Rattle.common.specs.Pick.{pick}
-use Rattle.error.specs.Refusal.{refusal, Told, good, bad, told}
+use Rattle.error.specs.Refusal.{refusal, Told, good, bad, told, told_result}
 use Rattle.error.specs.declared.Fault.{Fault}
 use Rattle.params.specs.declared.State.{State}
 use Rattle.params.specs.declared.Span as Code
@@ -41,8 +41,7 @@ if_in_file s p e a = pick (reader_in_file (length s) p e) a (reading (bad (refus
 
 -- what the code's answer says: its value or the refusal that its fault tells, and where the reader t then stands
 abbrev pub told_read : {A : Type 0} → Result A Fault → State → Read A
-told_read (Ok a) t = reading (good a) t.place t.end
-told_read (Err f) t = reading (bad (told f)) t.place t.end
+told_read r t = reading (told_result r) t.place t.end
 
 -- what the code's answer says, its value told by f: that or the refusal that its fault tells, and where the reader t then stands
 abbrev pub told_read_by : {A B : Type 0} → (A → B) → Result A Fault → State → Read B

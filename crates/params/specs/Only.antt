@@ -3,7 +3,7 @@
 use Rattle.std.specs.Prelude.{ℕ, ◌≤◌, min, ◌≡◌, refl, List, Result, Ok, Err, length, drop}
 use Rattle.std.proofs.Common.{sym, ◌∙◌, ap, arith, length-drop}
 use Rattle.common.specs.Compare.{clash}
-use Rattle.error.specs.Only.{result_of, result_of_told, fault_of, fault_of_told}
+use Rattle.error.specs.Only.{result_only, fault_of, fault_of_told}
 use Rattle.error.specs.Refusal.{Told, good, bad}
 use Rattle.error.specs.declared.Fault.{Fault}
 use Rattle.params.specs.ParameterEnd.{cut_of}
@@ -15,23 +15,10 @@ use Rattle.params.specs.declared.Cut.{Cut}
 state_of : {A : Type 0} → Read A → State
 state_of r = record { place = r.place; end = r.end }
 
--- what is told gives back the code's answer
-answer_told : {A : Type 0} (a : Result A Fault) (t : State) → result_of (told_read a t).answer ≡ a
-answer_told (Ok a) t = result_of_told (Ok a)
-answer_told (Err f) t = result_of_told (Err f)
-
--- what is told gives back the place and the end of the reader
-state_told : {A : Type 0} (a : Result A Fault) (t : State) → state_of (told_read a t) ≡ t
-unfolding state_of
-state_told (Ok a) t = refl
-state_told (Err f) t = refl
-
 -- each reader has one answer, and leaves one reader: two of each that tell the same are the same
 pub read_only : {A : Type 0} (a b : Result A Fault) (s t : State) → told_read a s ≡ told_read b t → (a ≡ b) × (s ≡ t)
-read_only {A} a b s t e = (
-  sym (answer_told a s) ∙ ap (λ (r : Read A). result_of r.answer) e ∙ answer_told b t,
-  sym (state_told a s) ∙ ap state_of e ∙ state_told b t,
-)
+unfolding state_of
+read_only {A} a b s t e = (result_only a b (ap (λ (r : Read A). r.answer) e), ap state_of e)
 
 -- where the answer is a value, it is had back by g from what f tells of it
 abbrev pub HeldBack : {A B : Type 0} → (A → B) → (B → A) → Result A Fault → Type 0

@@ -1,19 +1,19 @@
 -- Names and texts: one law for each way out of the code. Assumes nothing.
-use Rattle.std.specs.Prelude.{ℕ, ◌-◌, ◌≤◌, ◌<◌, ◌≡◌, Bool, true, false, not, ◌&&◌, ◌||◌, List, eqb, leb, length, take, drop, get_or}
+use Rattle.std.specs.Prelude.{ℕ, ◌-◌, ◌≤◌, ◌<◌, ◌≡◌, Bool, true, false, not, ◌&&◌, ◌||◌, List, Option, eqb, leb, length, take, drop, get_or}
 use Rattle.std.proofs.Math.Path.{refl, ap}
-use Rattle.std.proofs.Common.{sym, ◌∙◌, arith, le-leb, leb-true, length-drop, length-take-le}
+use Rattle.std.proofs.Common.{◌∙◌, arith, le-leb, leb-true, length-drop, length-take-le}
 use Rattle.std.proofs.lemmas.Bool.{lt-leb}
 use Rattle.common.specs.Pick.{pick}
 use Rattle.common.specs.Tests.{both}
-use Rattle.error.specs.Refusal.{Refusal, refusal, Told, good, bad}
+use Rattle.error.specs.Refusal.{refusal, good, bad}
 use Rattle.utf8.specs.Utf8.{valid_of}
 use Rattle.strings.specs.declared.Decoded.{Decoded}
 use Rattle.strings.specs.Answer.{decoded_of, room_after}
-use Rattle.params.specs.Answer.{Read, reading, Span, span, read_mapped}
+use Rattle.params.specs.Answer.{Span, span}
 use Rattle.scalars.specs.Scalars.{is_unset}
-use Rattle.words.specs.Words.{is_name, name_at, is_string, string_body, decoded_at, string_at, room_at}
-use Rattle.words.specs.Room.{room_of}
-use Rattle.words.specs.Answer.{span_bytes, Shown, in_file}
+use Rattle.words.specs.Words.{is_name, is_string, string_body, decoded_at, string_at, room_at}
+use Rattle.words.specs.Answer.{span_bytes}
+use Rattle.words.specs.declared.Text.TheVariants.{InFile}
 
 -- fewer than two bytes are no name
 pub name_short : (t : List ℕ) → length t < 2 → false ≡ is_name t
@@ -54,36 +54,20 @@ string_two t e = leb-true 2 (length t) (both (leb 2 (length t)) _ e).0
 pub part_length : (s : List ℕ) (a z : ℕ) → a ≤ z → z ≤ length s → length (take (z - a) (drop a s)) ≡ z - a
 part_length s a z h k = length-take-le (z - a) (drop a s) (omega (arith, length-drop a s))
 
-module _ (s o : List ℕ) (a z p e : ℕ) where
+module _ (s o : List ℕ) (a : Span) where
   -- "`$` gives an empty text": that is the answer, and the room stays
-  pub text_unset : is_unset (span_bytes s (span a z)) ≡ true → (reading (good (in_file (span a a))) p e ≡ reading (string_at s (length o) (span a z)) p e) × (o ≡ room_at s o (span a z))
+  pub text_unset : is_unset (span_bytes s a) ≡ true → (good (InFile (span a.start a.start)) ≡ string_at s (length o) a) × (o ≡ room_at s o a)
   unfolding string_at room_at
   text_unset h = (rw h refl, rw h refl)
 
-  module _ (n : is_unset (span_bytes s (span a z)) ≡ false) where
+  module _ (n : is_unset (span_bytes s a) ≡ false) where
     -- a parameter that is neither `$` nor a string is 12 at its start, and the room stays
-    pub text_wrong : is_string (span_bytes s (span a z)) ≡ false → (reading (bad (refusal 12 0 a)) p e ≡ reading (string_at s (length o) (span a z)) p e) × (o ≡ room_at s o (span a z))
+    pub text_wrong : is_string (span_bytes s a) ≡ false → (bad (refusal 12 0 a.start) ≡ string_at s (length o) a) × (o ≡ room_at s o a)
     unfolding string_at room_at
     text_wrong h = (rw (n, h) refl, rw (n, h) refl)
 
     -- a string parameter's text is what was decoded of it, and the room is what that left
-    pub text_read : (d : Decoded) (q : List ℕ) (t : Told Shown) → is_string (span_bytes s (span a z)) ≡ true → d ≡ decoded_of (string_body s (span a z)) (length o) → q ≡ room_after (string_body s (span a z)) o → t ≡ decoded_at (span a z) d
-        → (reading t p e ≡ reading (string_at s (length o) (span a z)) p e) × (q ≡ room_at s o (span a z))
+    pub text_read : (d : Option Decoded) (q : List ℕ) → is_string (span_bytes s a) ≡ true → d ≡ decoded_of (string_body s a) (length o) → q ≡ room_after (string_body s a) o
+        → (decoded_at a d ≡ string_at s (length o) a) × (q ≡ room_at s o a)
     unfolding string_at room_at
-    text_read d q t h f g k = (ap (λ (x : Told Shown). reading x p e) (k ∙ ap (decoded_at (span a z)) f ∙ rw (n, h) refl), g ∙ rw (n, h) refl)
-
--- where the next parameter is refused, so is its text, and the room stays
-pub text_refused_lem : (s o : List ℕ) (n : ℕ) (q : Refusal) (p e : ℕ) (r : Read Span) → reading (bad q) p e ≡ r → (reading (bad q) p e ≡ read_mapped (string_at s n) r) × (o ≡ room_of s o r.answer)
-text_refused_lem s o n q p e r h = (rw (sym h) refl, rw (sym h) refl)
-
--- the next parameter's text is that of its span, and so is the room after it
-pub text_next : (s o : List ℕ) (n a z p e : ℕ) (t : Read Shown) (m : List ℕ) (r : Read Span) → reading (good (span a z)) p e ≡ r → (t ≡ reading (string_at s n (span a z)) p e) → (m ≡ room_at s o (span a z)) → (t ≡ read_mapped (string_at s n) r) × (m ≡ room_of s o r.answer)
-text_next s o n a z p e t m r h k l = (k ∙ rw (sym h) refl, l ∙ rw (sym h) refl)
-
--- the next parameter's name is that of its span
-pub name_next : (s : List ℕ) (a z p e : ℕ) (t : Read Span) (r : Read Span) → reading (good (span a z)) p e ≡ r → t ≡ reading (name_at s (span a z)) p e → t ≡ read_mapped (name_at s) r
-name_next s a z p e t r h k = k ∙ rw (sym h) refl
-
--- where the next parameter is refused, so is its name
-pub name_refused : (s : List ℕ) (q : Refusal) (p e : ℕ) (r : Read Span) → reading (bad q) p e ≡ r → reading (bad q) p e ≡ read_mapped (name_at s) r
-name_refused s q p e r h = rw (sym h) refl
+    text_read d q h f g = (ap (decoded_at a) f ∙ rw (n, h) refl, g ∙ rw (n, h) refl)

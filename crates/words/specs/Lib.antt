@@ -5,5 +5,4 @@ pub mod Laws
 pub mod Rules
 pub mod RulesRight
 pub mod Places
-pub mod Only
 pub mod Examples

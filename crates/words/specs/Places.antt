@@ -10,8 +10,8 @@ use Rattle.params.specs.Rules.{ReaderInFile}
 use Rattle.params.specs.Places.{PlacedIn, Stands, PastParameter, mapped_stands, mapped_stays, param_placed, param_stays, param_past, refused_past}
 use Rattle.words.specs.Words.{name_at, string_at, room_at}
 use Rattle.words.specs.Room.{room_of}
-use Rattle.words.specs.Answer.{Shown, in_room}
-use Rattle.words.specs.Answer as Words
+use Rattle.words.specs.declared.Text.{Text}
+use Rattle.words.specs.declared.Text.TheVariants.{InFile, InRoom}
 use Rattle.words.specs.Rules.{NameForm, TextForm}
 use Rattle.words.specs.RulesRight.{part_long, nameform_is, textform_is}
 
@@ -62,12 +62,12 @@ module _ (s : List ℕ) (p e : ℕ) where
 
 -- ---- texts
 -- a text lies in a file of n bytes, or in a room of m bytes from its start on
-abbrev pub ShownIn : ℕ → ℕ → Shown → Type 0
-ShownIn n m (Words.in_file a) = SpanIn n a
-ShownIn n m (in_room k) = k ≤ m
+abbrev pub ShownIn : ℕ → ℕ → Text → Type 0
+ShownIn n m (InFile a) = SpanIn n a
+ShownIn n m (InRoom k) = k ≤ m
 
 -- a refusal of a text is at the parameter's start
-text_start : {s : List ℕ} {a : Span} {o m : List ℕ} {r : Told Shown} (q : Refusal) → TextForm s a o r m → r ≡ bad q → q.place ≡ a.start
+text_start : {s : List ℕ} {a : Span} {o m : List ℕ} {r : Told Text} (q : Refusal) → TextForm s a o r m → r ≡ bad q → q.place ≡ a.start
 text_start q (TextForm.unset h) e = clash (cc)
 text_start q (TextForm.plain h k) e = clash (cc)
 text_start q (TextForm.written h k t l) e = clash (cc)
@@ -79,7 +79,7 @@ module _ (s o : List ℕ) (p e : ℕ) where
   pub text_in_lem : ToldIn (length s) (ShownIn (length s) (length o)) (read_mapped (string_at s (length o)) (param_of s p e)).answer
   text_in_lem = next_in (ShownIn (length s) (length o)) (string_at s (length o)) s p e (λ a h. go a (string_at s (length o) a) (room_at s o a) (textform_is s a o h.0 h.1) h)
     where
-      go : (a : Span) (r : Told Shown) (m : List ℕ) → TextForm s a o r m → SpanIn (length s) a → ToldIn (length s) (ShownIn (length s) (length o)) r
+      go : (a : Span) (r : Told Text) (m : List ℕ) → TextForm s a o r m → SpanIn (length s) a → ToldIn (length s) (ShownIn (length s) (length o)) r
       go a r m (TextForm.unset u) (h, k) = (omega arith, omega arith)
       go a r m (TextForm.plain {b} u v) (h, k) = let l = part_long s a b 39 u.end h k u.shape in (omega arith, omega arith)
       go a r m (TextForm.written u v t l) (h, k) = l
@@ -105,7 +105,7 @@ module _ (s o : List ℕ) (p e : ℕ) where
   pub text_kept : (q : Refusal) → (read_mapped (string_at s (length o)) (param_of s p e)).answer ≡ bad q → room_of s o (param_of s p e).answer ≡ o
   text_kept q h = go (param_of s p e).answer refl h
     where
-      by : {a : Span} {r : Told Shown} {m : List ℕ} → TextForm s a o r m → r ≡ bad q → m ≡ o
+      by : {a : Span} {r : Told Text} {m : List ℕ} → TextForm s a o r m → r ≡ bad q → m ≡ o
       by (TextForm.unset u) k = clash (cc)
       by (TextForm.plain u v) k = clash (cc)
       by (TextForm.written u v t l) k = clash (cc)

@@ -10,7 +10,9 @@ use Rattle.utf8.specs.Encoding.{encode_all}
 use Rattle.utf8.specs.Rfc3629.{Valid}
 use Rattle.strings.specs.Rules.{Text}
 use Rattle.params.specs.Answer.{Span, span}
-use Rattle.words.specs.Answer.{span_bytes, Shown, in_file, in_room}
+use Rattle.words.specs.Answer.{span_bytes}
+use Rattle.words.specs.declared.Text as TextCode
+use Rattle.words.specs.declared.Text.TheVariants.{InFile, InRoom}
 
 -- "a name between two dots, valid UTF-8": t is a dot, the name n and a dot
 pub record Name (t n : List ℕ) : Type 0 where
@@ -33,14 +35,14 @@ Plainly [] = Unit {0}
 Plainly (c ∷ b) = ((c ≡ 39 → ⊥) × (c ≡ 92 → ⊥) × (c < 128)) × Plainly b
 
 -- the text of the parameter a, with the lent output o before and after
-pub data TextForm (s : List ℕ) (a : Span) (o : List ℕ) : Told Shown → List ℕ → Type 0 where
+pub data TextForm (s : List ℕ) (a : Span) (o : List ℕ) : Told TextCode.Text → List ℕ → Type 0 where
   -- "`$` gives an empty text"
-  unset : span_bytes s a ≡ bytes "$" → TextForm s a o (good (in_file (span a.start a.start))) o
+  unset : span_bytes s a ≡ bytes "$" → TextForm s a o (good (InFile (span a.start a.start))) o
   -- "If no quote, backslash or high byte occurs, the text shown is that part of the file"
-  plain : {b : List ℕ} → Quoted (span_bytes s a) b → Plainly b → TextForm s a o (good (in_file (span (a.start + 1) (a.stop - 1)))) o
+  plain : {b : List ℕ} → Quoted (span_bytes s a) b → Plainly b → TextForm s a o (good (InFile (span (a.start + 1) (a.stop - 1)))) o
   -- "otherwise a part of the lent output", which keeps its bytes beyond it
   written : {b cs : List ℕ} → Quoted (span_bytes s a) b → (Plainly b → ⊥) → Text b cs → length (encode_all cs) ≤ length o
-      → TextForm s a o (good (in_room (length (encode_all cs)))) (encode_all cs ++ drop (length (encode_all cs)) o)
+      → TextForm s a o (good (InRoom (length (encode_all cs)))) (encode_all cs ++ drop (length (encode_all cs)) o)
   -- "16 exactly when a text of this second kind is longer than the output", at the "parameter start"
   short : {b cs : List ℕ} → Quoted (span_bytes s a) b → (Plainly b → ⊥) → Text b cs → length o < length (encode_all cs)
       → TextForm s a o (bad (refusal 16 0 a.start)) o

@@ -1,5 +1,5 @@
 -- Rules.antt's rules and what Words.antt computes are one: what is computed is so, and nothing else is. Assumes nothing.
-use Rattle.std.specs.Prelude.{ℕ, suc, ◌+◌, ◌-◌, ◌≤◌, ◌≡◌, Bool, ◌||◌, eqb, leb, length, take, drop, get_or}
+use Rattle.std.specs.Prelude.{ℕ, suc, ◌+◌, ◌-◌, ◌≤◌, ◌≡◌, Bool, ◌||◌, eqb, leb, length, take, drop, get_or, Some, None}
 use Rattle.std.proofs.Math.Path.{refl, sym}
 use Rattle.std.proofs.Common.{◌∙◌, ap, arith, eqb-true, ne_eqb, le-leb, leb-true, leb-false, length-append, length-drop, length-take-le, take_at}
 use Rattle.std.proofs.Math.Bool.{true, false}
@@ -19,13 +19,14 @@ use Rattle.strings.specs.Text as String
 use Rattle.strings.specs.Rules.{Text}
 use Rattle.strings.specs.RulesRight.{text_is_lem, text_only}
 use Rattle.strings.specs.Answer.{decoded_of, room_after}
-use Rattle.strings.specs.declared.Decoded.TheVariants.{Written, Short}
+use Rattle.strings.specs.declared.Decoded.TheVariants.{Written}
 use Rattle.params.specs.Answer.{Span, span}
 use Rattle.scalars.specs.Scalars.{is_unset}
 use Rattle.scalars.specs.Laws.{part_part}
 use Rattle.scalars.specs.RulesRight.{same_not}
 use Rattle.words.specs.Words.{is_name, name_at, is_string, string_body, decoded_at, string_at, room_at}
-use Rattle.words.specs.Answer.{span_bytes, Shown}
+use Rattle.words.specs.Answer.{span_bytes}
+use Rattle.words.specs.declared.Text as TextCode
 use Rattle.words.specs.Rules.{Name, NameForm, Quoted, Plainly, TextForm}
 
 -- ---- a first byte, a middle and a last byte
@@ -140,7 +141,7 @@ quoted_body s a b h k q = body_part s a b 39 q.end h k q.shape
 
 -- a string parameter is not `$`
 quoted_given : {t b : List ℕ} → Quoted t b → is_unset t ≡ false
-unfolding is_unset same_bytes
+unfolding is_unset
 quoted_given q = rw q.shape refl
 
 -- "no quote, backslash or high byte occurs": bytes of which this holds by the rule pass the test
@@ -189,7 +190,7 @@ module _ (s : List ℕ) (a : Span) (o : List ℕ) (ordered : a.start ≤ a.stop)
 
   -- what is computed of a string parameter that is not plain: its text is written where the room has space for it, or refused
   write_at : (b : List ℕ) → Quoted (span_bytes s a) b → (Plainly b → ⊥) → (t : Bool) → leb (length (String.bytes_of b)) (length o) ≡ t
-      → (string_at s (length o) a ≡ decoded_at a (pick t (Written (length (String.bytes_of b))) Short)) × (room_at s o a ≡ pick t (String.bytes_of b ++ drop (length (String.bytes_of b)) o) o)
+      → (string_at s (length o) a ≡ decoded_at a (pick t (Some (Written (length (String.bytes_of b)))) None)) × (room_at s o a ≡ pick t (String.bytes_of b ++ drop (length (String.bytes_of b)) o) o)
   write_at b q n t e = let (x, y) = string_at_lem b q in
       (x ∙ rw (plain_not b n, e) refl, y ∙ rw (plain_not b n, e) refl)
 
@@ -222,9 +223,9 @@ module _ (s : List ℕ) (a : Span) (o : List ℕ) (ordered : a.start ≤ a.stop)
           rw (e, f) (TextForm.other (λ k. clash (cc (ap (λ (x : List ℕ). same_bytes x (bytes "$")) k ∙ same_self (bytes "$")))) (λ b q. clash (cc (quoted_only q))))
 
   -- a parameter's text by the rules, and the room after it, are those that are computed
-  pub textform_only : {r : Told Shown} {q : List ℕ} → TextForm s a o r q → (r ≡ string_at s (length o) a) × (q ≡ room_at s o a)
+  pub textform_only : {r : Told TextCode.Text} {q : List ℕ} → TextForm s a o r q → (r ≡ string_at s (length o) a) × (q ≡ room_at s o a)
   unfolding string_at room_at is_unset
-  textform_only (TextForm.unset e) = (rw (e, same_self (bytes "$")) refl, rw (e, same_self (bytes "$")) refl)
+  textform_only (TextForm.unset e) = (rw e refl, rw e refl)
   textform_only (TextForm.plain {b} q p) = let (x, y) = string_at_lem b q in (sym (x ∙ rw (plain_only b p) refl), sym (y ∙ rw (plain_only b p) refl))
   textform_only (TextForm.written {b} {cs} q n t l) =
       let g = bytes_only t in

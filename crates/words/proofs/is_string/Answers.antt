@@ -5,10 +5,10 @@ use lib.ListN.{length}
 use Rattle.words.specs.Words.{is_string}
 use Rattle.words.proofs.is_string.Goals as goal
 
-pub returns-then-t-lt2 : goal.returns-then-t-lt2
+pub returns-else-t-ge2 : goal.returns-else-t-ge2
 unfolding is_string
-returns-then-t-lt2 c = rw (lt-leb 2 (length c.args.t.now) (omega arith)) refl
+returns-else-t-ge2 c = rw (lt-leb 2 (length c.args.t.now) (omega arith)) refl
 
-pub returns : goal.returns
+pub returns-then-t-ge2 : goal.returns-then-t-ge2
 unfolding is_string
-returns c = rw (le-leb 2 (length c.args.t.now) (omega arith)) refl
+returns-then-t-ge2 c = rw (le-leb 2 (length c.args.t.now) (omega arith)) refl
