@@ -1,6 +1,6 @@
 -- A data record takes at least five bytes, so that no file which the scan takes has more records than the index can hold.
 -- Assumes nothing.
-use Rattle.std.specs.Prelude.{ℕ, ◌+◌, ◌*◌, ◌≤◌, ◌<◌, ◌≡◌, refl, List, [], ◌∷◌, length}
+use Rattle.std.specs.Prelude.{ℕ, ◌+◌, ◌*◌, ◌≤◌, ◌<◌, ◌≡◌, refl, List, [], ◌∷◌, length, Ok}
 use Rattle.std.proofs.Common.{◌∙◌, ap, arith, length-append}
 use Rattle.error.specs.Refusal.{Told, good, bad}
 use Rattle.lex.specs.Local.{trivia_shorter}
@@ -26,7 +26,7 @@ lead_long : {a v : List ℕ} {n : ℕ} → Lead a n v → 3 ≤ length a
 lead_long (Lead.lead ds w u v i p q) = let d = some_digits ds i.some in simp length-append (omega arith)
 
 -- a complex record's text has at least four bytes: its `(` follows `#`, a digit and `=`
-complex_long : {b : List ℕ} {i o : ℕ} → HeadForm b (Complex i o) → 4 ≤ length b
+complex_long : {b : List ℕ} {i o : ℕ} → HeadForm b (Ok (Complex i o)) → 4 ≤ length b
 complex_long (HeadForm.complex l) = let d = lead_long l in simp length-append (omega arith)
 
 -- what begins with a keyword has at least one byte, its `(`
@@ -34,7 +34,7 @@ key_long : {v k w r : List ℕ} → Keyword v k w r → 1 ≤ length v
 key_long {v} {k} {w} {r} f = let e : length v ≡ length k + (length w + length (40 ∷ r)) = ap (λ (x : List ℕ). length x) f.shape ∙ simp length-append in omega arith
 
 -- a simple record's text has at least four bytes
-simple_long : {b : List ℕ} {i a z o : ℕ} → HeadForm b (Simple i a z o) → 4 ≤ length b
+simple_long : {b : List ℕ} {i a z o : ℕ} → HeadForm b (Ok (Simple i a z o)) → 4 ≤ length b
 simple_long (HeadForm.simple l h f) = let d = lead_long l in let e = key_long f in simp length-append (omega arith)
 
 -- a data record's text has at least four bytes

@@ -7,7 +7,8 @@ use Rattle.table.specs.Table.{rows_fit, id_of}
 use Rattle.statement.specs.Rows.{mapped}
 use Rattle.scan.specs.Records.{Table}
 use Rattle.scan.specs.File.{scan_of}
-use Rattle.scan.specs.ScanMemory.{Counts, counts, counts_of, data_room}
+use Rattle.scan.specs.ScanMemory.{counts, counts_of, data_room}
+use Rattle.scan.specs.declared.Counts.{Counts}
 use Rattle.scan.specs.Rooms.{scan_fit}
 use Rattle.index.specs.KeyOrder.{table_room}
 use Rattle.index.specs.Lookup.{lookup_of}

@@ -1,7 +1,7 @@
 -- The record that is served: over the rows that the scan laid and the index built of them, lookup answers with the records of the
 -- file. "Lookup of an id answers like a map written to in file order: the last record of that id, or none."
 -- Assumes nothing.
-use Rattle.std.specs.Prelude.{ℕ, ◌≤◌, ◌<◌, ◌≡◌, List, length}
+use Rattle.std.specs.Prelude.{ℕ, ◌≤◌, ◌<◌, ◌≡◌, List, length, Ok}
 use Rattle.std.proofs.Common.{sym, ◌∙◌, ap, subst, arith}
 use Rattle.std.proofs.Math.Option.{some}
 use Rattle.std.proofs.Math.ListN.{get_elem?}
@@ -24,7 +24,6 @@ use Rattle.store.specs.Few.{scan_few}
 use Rattle.lookup.specs.declared.Tables.{Tables}
 use Rattle.store.specs.Laws.{counted_table, open_right}
 use Rattle.store.specs.Store.{OpensFile, scan_into}
-use Rattle.store.specs.declared.OpenedFile.TheVariants.{Good}
 
 module _ (t : Table) (old : List ℕ) where
   -- the lent data rows after an answer
@@ -55,7 +54,7 @@ module _ (t : Table) (old : List ℕ) where
     served_form k = subst (LastForm k t.records) (sym (served_is k)) (last_is k t.records)
 
 -- over all that opening a file leaves, the file has records, and what lookup serves is the last of that id, or none
-pub opened_served : (s heads rows slots : List ℕ) (a : Tables) (heads' rows' slots' : List ℕ) → OpensFile s heads rows slots (Good a) heads' rows' slots'
+pub opened_served : (s heads rows slots : List ℕ) (a : Tables) (heads' rows' slots' : List ℕ) → OpensFile s heads rows slots (Ok a) heads' rows' slots'
     → (t : Table) × (scan_into s heads rows slots ≡ good t) × ((k : ℕ) → row_found rows' (searched rows' slots' a.ids k) ≡ last_of k t.records)
 opened_served s heads rows slots a heads' rows' slots' o =
     let (t, e, n) = counted_table (scan_into s heads rows slots) a.headers a.records a.max o.answer in

@@ -10,37 +10,24 @@ ghost use Rattle.store.specs.Store.{scan_into, told_opened_file, Indexed};
 
 use error::Fault;
 use lookup::Tables;
-use scan::Scanned;
-
-// The numbers that go with the tables, or why there are none.
-#[derive(Clone, Copy)]
-pub enum OpenedFile {
-    Good(Tables),
-    Refused(Fault),
-}
 
 // Scans a file into lent rows and indexes its ids in the lent slots, one a record. A refusal changes nothing that was lent.
-pub fn open(file: &[u8], headers: &mut [u32], rows: &mut [u32], slots: &mut [u64]) -> OpenedFile
+pub fn open(
+    file: &[u8],
+    headers: &mut [u32],
+    rows: &mut [u32],
+    slots: &mut [u64],
+) -> Result<Tables, Fault>
     ensures result_value { told_opened_file result ≡ mapped counts_of (scan_into file.now headers.old rows.old slots.old) }
     ensures headers_after { headers.new ≡ headers_after (scan_into file.now headers.old rows.old slots.old) headers.old }
     ensures rows_after { rows.new ≡ rows_after (scan_into file.now headers.old rows.old slots.old) rows.old }
     ensures indexed { Indexed result rows.new slots.old slots.new }
 {
-    let n = slots.len();
-    match scan::scan(file, headers, rows, n) {
-        Scanned::Refused(f) => OpenedFile::Refused(f),
-        Scanned::Rows {
-            headers: h,
-            records,
-            max,
-        } => {
-            let ids = index::build(rows, records, slots);
-            OpenedFile::Good(Tables {
-                headers: h,
-                records,
-                max,
-                ids,
-            })
-        }
-    }
+    let counts = scan::scan(file, headers, rows, slots.len())?;
+    Ok(Tables {
+        headers: counts.headers,
+        records: counts.records,
+        max: counts.max,
+        ids: index::build(rows, counts.records, slots),
+    })
 }
