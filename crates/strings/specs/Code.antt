@@ -1,14 +1,15 @@
 -- What the numbers that the code hands on stand for, and the answers of the public functions. Assumes nothing.
-use Rattle.std.specs.Prelude.{ℕ, ◌≤◌, ◌<◌, ◌≡◌, true, false, List, [], ◌∷◌, ◌++◌, eqb, length, take, drop}
+use Rattle.std.specs.Prelude.{ℕ, ◌≤◌, ◌<◌, ◌≡◌, true, false, List, [], ◌∷◌, ◌++◌, eqb, length, take, drop, Option, Some, None}
 use Rattle.common.specs.Pick.{pick}
 use Rattle.utf8.specs.Encoding.{encode_all}
 use Rattle.strings.specs.declared.Char.{Char}
-use Rattle.strings.specs.Text.{Group, char, wrong, Piece, plain, page_after, text_on}
+use Rattle.strings.specs.Text.{Group, char, wrong, Piece, plain, long_of, page_after, text_on}
 use Rattle.strings.specs.Put.{Laid}
 
--- the group that the code's answer tells: one that took no byte is a bad one
-abbrev pub told_group : Char → Group
-told_group c = pick (eqb c.used 0) wrong (char c.code c.used)
+-- the group that the code's answer tells: none is a bad one
+abbrev pub told_group : Option Char → Group
+told_group (Some c) = char c.code c.used
+told_group None = wrong
 
 -- a piece as the code sees it: the bytes to write and the bytes read
 pub record View : Type 0 where
@@ -22,6 +23,11 @@ view_of p = record { written = encode_all p.chars; used = p.used }
 -- the view of a piece with one character; a number that is no character stands for none
 abbrev pub one_view : ℕ → ℕ → View
 one_view c k = record { written = encode_all (c ∷ []); used = k }
+
+-- the view of the character that stands at a backslash, and where none does, of a directive with groups or an unknown one
+abbrev pub short_view : List ℕ → Option Char → View
+short_view s (Some c) = one_view c.code c.used
+short_view s None = view_of (long_of s)
 
 -- a piece has been read: its bytes are put from place a on
 pub record PiecePut (p : Piece) (a : ℕ) (o : List ℕ) (e k : ℕ) (q : List ℕ) : Type 0 where

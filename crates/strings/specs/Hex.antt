@@ -1,8 +1,9 @@
 -- Hex digits and groups, as the code computes them: one law for each way out. Assumes nothing.
-use Rattle.std.specs.Prelude.{ℕ, zero, suc, ◌+◌, ◌*◌, ◌/◌, ◌%◌, ◌≤◌, ◌<◌, ◌≡◌, refl, Bool, true, false, ◌&&◌, ◌||◌, List, [], ◌∷◌, leb, ltb, length, get_or}
+use Rattle.std.specs.Prelude.{ℕ, zero, suc, ◌+◌, ◌*◌, ◌/◌, ◌%◌, ◌≤◌, ◌<◌, ◌≡◌, refl, Bool, true, false, ◌&&◌, ◌||◌, List, [], ◌∷◌, leb, ltb, length, get_or, Option, Some, None}
 use Rattle.std.proofs.Common.{sym, ◌∙◌, ap, arith, ltb-true, ltb-false, leb-true, leb-false, le-leb}
 use Rattle.std.proofs.lemmas.Bool.{lt-leb}
 use Rattle.std.proofs.Math.ListN.{get_or-eq_default}
+use Rattle.common.specs.Compare.{clash}
 use Rattle.common.specs.Pick.{pick}
 use Rattle.common.specs.Tests.{both, neither}
 use Rattle.utf8.specs.Utf8.{byte_at}
@@ -64,27 +65,27 @@ four_within s k e =
     let z = hex_within s (k + 2 + 1) y.1 in
     omega arith
 
--- a number asked for past the end of the list is what stands for none, if it could stand only within the list
-pub not_past : (t : Bool) (v n e l : ℕ) → (t ≡ true → e ≤ l) → l < e → n ≡ pick t v n
-not_past true v n e l f h = let k = f refl in absurd (omega arith)
-not_past false v n e l f h = refl
+-- a number asked for past the end of the list is none, if it could stand only within the list
+pub not_past : (t : Bool) (v e l : ℕ) → (t ≡ true → e ≤ l) → l < e → None ≡ pick t (Some v) None
+not_past true v e l f h = let k = f refl in absurd (omega arith)
+not_past false v e l f h = refl
 
--- fewer than two bytes are no two hex digits: 256 stands for them
-pub two_past : (s : List ℕ) (k : ℕ) → length s < k + 2 → 256 ≡ pick (two_at s k) (two_of s k) 256
-two_past s k = not_past (two_at s k) (two_of s k) 256 (k + 2) (length s) (λ e. let z = hex_within s (k + 1) (both (hex_digit (byte_at s k)) (hex_digit (byte_at s (k + 1))) e).1 in omega arith)
+-- fewer than two bytes are no two hex digits
+pub two_past : (s : List ℕ) (k : ℕ) → length s < k + 2 → None ≡ pick (two_at s k) (Some (two_of s k)) None
+two_past s k = not_past (two_at s k) (two_of s k) (k + 2) (length s) (λ e. let z = hex_within s (k + 1) (both (hex_digit (byte_at s k)) (hex_digit (byte_at s (k + 1))) e).1 in omega arith)
 
--- fewer than four bytes are no four hex digits: 65536 stands for them
-pub four_past : (s : List ℕ) (k : ℕ) → length s < k + 4 → 65536 ≡ pick (four_at s k) (four_of s k) 65536
-four_past s k = not_past (four_at s k) (four_of s k) 65536 (k + 4) (length s) (four_within s k)
+-- fewer than four bytes are no four hex digits
+pub four_past : (s : List ℕ) (k : ℕ) → length s < k + 4 → None ≡ pick (four_at s k) (Some (four_of s k)) None
+four_past s k = not_past (four_at s k) (four_of s k) (k + 4) (length s) (four_within s k)
 
 -- two bytes of a list, as the code reads them
 module _ (s : List ℕ) (k a b : ℕ) (ea : a ≡ byte_at s k) (eb : b ≡ byte_at s (k + 1)) where
   -- two bytes that are hex digits: v is their number
-  pub two_is : (v : ℕ) → hex_digit a && hex_digit b ≡ true → v ≡ hex_value a * 16 + hex_value b → v ≡ pick (two_at s k) (two_of s k) 256
-  two_is v h e = rw (sym ea, sym eb, h) e
+  pub two_is : (v : ℕ) → hex_digit a && hex_digit b ≡ true → v ≡ hex_value a * 16 + hex_value b → Some v ≡ pick (two_at s k) (Some (two_of s k)) None
+  two_is v h e = rw (sym ea, sym eb, h) (ap Some e)
 
-  -- two bytes that are not both hex digits: 256 stands for them
-  pub two_not : hex_digit a && hex_digit b ≡ false → 256 ≡ pick (two_at s k) (two_of s k) 256
+  -- two bytes that are not both hex digits have no number
+  pub two_not : hex_digit a && hex_digit b ≡ false → None ≡ pick (two_at s k) (Some (two_of s k)) None
   two_not h = rw (sym ea, sym eb, h) refl
 
   -- four bytes of a list, as the code reads them
@@ -93,22 +94,12 @@ module _ (s : List ℕ) (k a b : ℕ) (ea : a ≡ byte_at s k) (eb : b ≡ byte_
     last = let e : k + 3 ≡ k + 2 + 1 = omega arith in ed ∙ ap (byte_at s) e
 
     -- four bytes that are hex digits: their number is that of the two pairs
-    pub four_hex_is : (v w : ℕ) → (hex_digit a && hex_digit b) && (hex_digit c && hex_digit d) ≡ true → v ≡ hex_value a * 16 + hex_value b → w ≡ hex_value c * 16 + hex_value d → v * 256 + w ≡ pick (four_at s k) (four_of s k) 65536
+    pub four_hex_is : (v w : ℕ) → (hex_digit a && hex_digit b) && (hex_digit c && hex_digit d) ≡ true → v ≡ hex_value a * 16 + hex_value b → w ≡ hex_value c * 16 + hex_value d → Some (v * 256 + w) ≡ pick (four_at s k) (Some (four_of s k)) None
     four_hex_is v w h e f = rw (sym ea, sym eb, sym ec, sym last, h, e, f) refl
 
-    -- four bytes that are not all hex digits: 65536 stands for them
-    pub four_not : (hex_digit a && hex_digit b) && (hex_digit c && hex_digit d) ≡ false → 65536 ≡ pick (four_at s k) (four_of s k) 65536
+    -- four bytes that are not all hex digits have no number
+    pub four_not : (hex_digit a && hex_digit b) && (hex_digit c && hex_digit d) ≡ false → None ≡ pick (four_at s k) (Some (four_of s k)) None
     four_not h = rw (sym ea, sym eb, sym ec, sym last, h) refl
-
--- what is picked is below its bound only where the test passes
-pub there : (t : Bool) (v n : ℕ) → pick t v n < n → t ≡ true
-there true v n h = refl
-there false v n h = absurd (omega arith)
-
--- what is picked is at its bound only where the test fails
-pub absent : (t : Bool) (v n : ℕ) → (t ≡ true → v < n) → n ≤ pick t v n → t ≡ false
-absent true v n k h = let l = k refl in absurd (omega arith)
-absent false v n k h = refl
 
 -- the number of two hex digits is below 256
 pub two_below : (s : List ℕ) (k : ℕ) → two_at s k ≡ true → two_of s k < 256
@@ -126,72 +117,67 @@ four_below s k e =
     let y = two_below s (k + 2) j.1 in
     omega arith
 
--- what is picked and below its bound: the test passes, and it is the value
-pub hex_found : (t : Bool) (v n a : ℕ) → a ≡ pick t v n → a < n → (t ≡ true) × (a ≡ v)
-hex_found t v n a e h = let x = there t v n (rw (sym e) h) in (x, e ∙ rw x refl)
+-- where a number is picked, the test passes, and it is the value
+pub hex_found : (t : Bool) (v a : ℕ) → Some a ≡ pick t (Some v) None → (t ≡ true) × (a ≡ v)
+hex_found true v a e = (refl, cc)
+hex_found false v a e = clash (cc)
 
--- what is picked and at its bound or above: the test fails
-pub hex_missed : (t : Bool) (v n a : ℕ) → (t ≡ true → v < n) → a ≡ pick t v n → n ≤ a → t ≡ false
-hex_missed t v n a k e h = absent t v n k (rw (sym e) h)
+-- where none is picked, the test fails
+pub hex_missed : (t : Bool) (v : ℕ) → None ≡ pick t (Some v) None → t ≡ false
+hex_missed true v e = clash (cc)
+hex_missed false v e = refl
 
 -- where no four hex digits stand there is no group of four
-pub two_wrong : (s : List ℕ) (a : ℕ) → a ≡ pick (four_at s 0) (four_of s 0) 65536 → 65536 ≤ a → wrong ≡ group_two s
+pub two_wrong : (s : List ℕ) → None ≡ pick (four_at s 0) (Some (four_of s 0)) None → wrong ≡ group_two s
 unfolding group_two
-two_wrong s a e h = rw (hex_missed (four_at s 0) (four_of s 0) 65536 a (four_below s 0) e h) refl
+two_wrong s e = rw (hex_missed (four_at s 0) (four_of s 0) e) refl
 
 -- a high surrogate without four hex digits after it is no group
-pub two_single : (s : List ℕ) (a b : ℕ) → a ≡ pick (four_at s 0) (four_of s 0) 65536 → a < 65536 → high a ≡ true → b ≡ pick (four_at s 4) (four_of s 4) 65536 → 65536 ≤ b → wrong ≡ group_two s
+pub two_single : (s : List ℕ) (a : ℕ) → Some a ≡ pick (four_at s 0) (Some (four_of s 0)) None → high a ≡ true → None ≡ pick (four_at s 4) (Some (four_of s 4)) None → wrong ≡ group_two s
 unfolding group_two
-two_single s a b e h g f l =
-    let x = hex_found (four_at s 0) (four_of s 0) 65536 a e h in
+two_single s a e g f =
+    let x = hex_found (four_at s 0) (four_of s 0) a e in
     let hi : high (four_of s 0) ≡ true = rw (sym x.1) g in
-    rw (x.0, hi, hex_missed (four_at s 4) (four_of s 4) 65536 b (four_below s 4) f l) refl
+    rw (x.0, hi, hex_missed (four_at s 4) (four_of s 4) f) refl
 
 -- a high surrogate and a second group are one character of eight digits
-pub two_pair : (s : List ℕ) (a b : ℕ) → a ≡ pick (four_at s 0) (four_of s 0) 65536 → a < 65536 → high a ≡ true → b ≡ pick (four_at s 4) (four_of s 4) 65536 → b < 65536 → char (surrogates_joined a b) 8 ≡ group_two s
+pub two_pair : (s : List ℕ) (a b : ℕ) → Some a ≡ pick (four_at s 0) (Some (four_of s 0)) None → high a ≡ true → Some b ≡ pick (four_at s 4) (Some (four_of s 4)) None → char (surrogates_joined a b) 8 ≡ group_two s
 unfolding group_two
-two_pair s a b e h g f l =
-    let x = hex_found (four_at s 0) (four_of s 0) 65536 a e h in
-    let y = hex_found (four_at s 4) (four_of s 4) 65536 b f l in
+two_pair s a b e g f =
+    let x = hex_found (four_at s 0) (four_of s 0) a e in
+    let y = hex_found (four_at s 4) (four_of s 4) b f in
     let hi : high (four_of s 0) ≡ true = rw (sym x.1) g in
     rw (x.0, hi, y.0, x.1, y.1) refl
 
 -- four hex digits that are no high surrogate are a group of their own
-pub two_alone : (s : List ℕ) (a : ℕ) → a ≡ pick (four_at s 0) (four_of s 0) 65536 → a < 65536 → high a ≡ false → char (character_of_code a) 4 ≡ group_two s
+pub two_alone : (s : List ℕ) (a : ℕ) → Some a ≡ pick (four_at s 0) (Some (four_of s 0)) None → high a ≡ false → char (character_of_code a) 4 ≡ group_two s
 unfolding group_two
-two_alone s a e h g =
-    let x = hex_found (four_at s 0) (four_of s 0) 65536 a e h in
+two_alone s a e g =
+    let x = hex_found (four_at s 0) (four_of s 0) a e in
     let hi : high (four_of s 0) ≡ false = rw (sym x.1) g in
     rw (x.0, hi, x.1) refl
 
--- where no eight hex digits stand there is no group of eight
-pub four_wrong : (s : List ℕ) (a b : ℕ) → a ≡ pick (four_at s 0) (four_of s 0) 65536 → b ≡ pick (four_at s 4) (four_of s 4) 65536 → leb 65536 a || leb 65536 b ≡ true → wrong ≡ group_four s
+-- where no eight hex digits stand, for want of the first four, there is no group of eight
+pub four_wrong : (s : List ℕ) → None ≡ pick (four_at s 0) (Some (four_of s 0)) None → wrong ≡ group_four s
 unfolding group_four
-four_wrong s a b e f h = go (four_at s 0) (four_at s 4) (leb 65536 a) (leb 65536 b) refl refl refl refl h
-  where
-    go : (t u x y : Bool) → four_at s 0 ≡ t → four_at s 4 ≡ u → leb 65536 a ≡ x → leb 65536 b ≡ y → x || y ≡ true → wrong ≡ group_four s
-    go false u x y p q i j k = rw p refl
-    go true false x y p q i j k = rw (p, q) refl
-    go true true true y p q i j k =
-        let l = leb-true 65536 a i in
-        let m = four_below s 0 p in
-        let n : a ≡ four_of s 0 = e ∙ rw p refl in
-        absurd (omega arith)
-    go true true false true p q i j k =
-        let l = leb-true 65536 b j in
-        let m = four_below s 4 q in
-        let n : b ≡ four_of s 4 = f ∙ rw q refl in
-        absurd (omega arith)
-    go true true false false p q i j k = let z : ◌≡◌ {A = ℕ} 0 1 = ap (λ (o : Bool). pick o 1 0) k in absurd (omega arith)
+four_wrong s e = rw (hex_missed (four_at s 0) (four_of s 0) e) refl
+
+-- where no eight hex digits stand, for want of the last four, there is no group of eight
+pub four_half : (s : List ℕ) (a : ℕ) → Some a ≡ pick (four_at s 0) (Some (four_of s 0)) None → None ≡ pick (four_at s 4) (Some (four_of s 4)) None → wrong ≡ group_four s
+unfolding group_four
+four_half s a e f = rw ((hex_found (four_at s 0) (four_of s 0) a e).0, hex_missed (four_at s 4) (four_of s 4) f) refl
 
 -- eight hex digits are a group
-pub four_char : (s : List ℕ) (a b : ℕ) → a ≡ pick (four_at s 0) (four_of s 0) 65536 → b ≡ pick (four_at s 4) (four_of s 4) 65536 → leb 65536 a || leb 65536 b ≡ false → char (character_of_code (a * 65536 + b)) 8 ≡ group_four s
+pub four_char : (s : List ℕ) (a b : ℕ) → Some a ≡ pick (four_at s 0) (Some (four_of s 0)) None → Some b ≡ pick (four_at s 4) (Some (four_of s 4)) None → char (character_of_code (a * 65536 + b)) 8 ≡ group_four s
 unfolding group_four
-four_char s a b e f h =
-    let k = neither (leb 65536 a) (leb 65536 b) h in
-    let x = hex_found (four_at s 0) (four_of s 0) 65536 a e (leb-false 65536 a k.0) in
-    let y = hex_found (four_at s 4) (four_of s 4) 65536 b f (leb-false 65536 b k.1) in
+four_char s a b e f =
+    let x = hex_found (four_at s 0) (four_of s 0) a e in
+    let y = hex_found (four_at s 4) (four_of s 4) b f in
     rw (x.0, y.0, x.1, y.1) refl
+
+-- the number of four hex digits that is picked is below 65536
+pub picked_below : (s : List ℕ) (k a : ℕ) → Some a ≡ pick (four_at s k) (Some (four_of s k)) None → a < 65536
+picked_below s k a e = let x = hex_found (four_at s k) (four_of s k) a e in let l = four_below s k x.0 in omega arith
 
 -- a byte of a list, or what stands for none past its end, is 256 at most
 pub byte_small : (s : List ℕ) (k : ℕ) → get_or s k 0 < 256 → byte_at s k ≤ 256

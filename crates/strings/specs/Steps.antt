@@ -1,5 +1,5 @@
 -- The text's pieces one after another: the laws that the code's loops go by. Assumes nothing.
-use Rattle.std.specs.Prelude.{ℕ, zero, suc, ◌+◌, ◌-◌, ◌≤◌, ◌<◌, min, ◌≡◌, refl, Bool, true, false, ◌&&◌, ◌||◌, eqb, leb, ltb, length, take, drop}
+use Rattle.std.specs.Prelude.{ℕ, zero, suc, ◌+◌, ◌-◌, ◌≤◌, ◌<◌, min, ◌≡◌, refl, Bool, true, false, ◌&&◌, ◌||◌, eqb, leb, ltb, length, take, drop, Option, Some, None}
 use Rattle.std.proofs.Common.{sym, ◌∙◌, arith, ltb-true, ltb-false, leb-true, eqb-true, ne_eqb, length-drop, drop_of_length-le, drop-drop, take_all}
 use Rattle.std.proofs.Math.Path.{ap}
 use mathlib.Core.List.{List, [], ◌∷◌, ◌++◌, append-nil}
@@ -274,13 +274,38 @@ module _ (w : ℕ) (s : List ℕ) (a₀ : ℕ) (o₀ : List ℕ) where
             kept = j ∙ r.kept;
           }
 
--- where the code's group took bytes, it is a good one of its code and its bytes
-pub told_char : (w : ℕ) (t u : List ℕ) (c : Char) → u ≡ t → told_group c ≡ Text.group_of w u → (c.used ≡ 0 → ⊥) → Text.group_of w t ≡ Text.char c.code c.used
-told_char w t u c e h n = rw (sym e) (sym h ∙ rw (ne_eqb c.used 0 n) refl)
+-- whether a group is bad, or takes a byte at least
+abbrev Takes : Text.Group → Type 0
+Takes (Text.char c k) = 0 < k
+Takes Text.wrong = Unit {0}
 
--- where the code's group took no bytes, it is a bad one
-pub told_wrong : (w : ℕ) (t u : List ℕ) (c : Char) → u ≡ t → told_group c ≡ Text.group_of w u → c.used ≡ 0 → Text.group_of w t ≡ Text.wrong
-told_wrong w t u c e h n = rw (sym e) (sym h ∙ rw n refl)
+-- a good group takes a byte at least
+group_takes : (w : ℕ) (s : List ℕ) → Takes (Text.group_of w s)
+unfolding Text.group_two Text.group_four
+group_takes w s = go (eqb w 4)
+  where
+    two : (t u v : Bool) → Text.four_at s 0 ≡ t → Text.high (Text.four_of s 0) ≡ u → Text.four_at s 4 ≡ v → Takes (Text.group_two s)
+    two false u v p q r = rw p tt
+    two true false v p q r = rw (p, q) (omega arith)
+    two true true false p q r = rw (p, q, r) tt
+    two true true true p q r = rw (p, q, r) (omega arith)
+
+    four : (t v : Bool) → Text.four_at s 0 ≡ t → Text.four_at s 4 ≡ v → Takes (Text.group_four s)
+    four false v p r = rw p tt
+    four true false p r = rw (p, r) tt
+    four true true p r = rw (p, r) (omega arith)
+
+    go : (t : Bool) → Takes (pick t (Text.group_two s) (Text.group_four s))
+    go true = two (Text.four_at s 0) (Text.high (Text.four_of s 0)) (Text.four_at s 4) refl refl refl
+    go false = four (Text.four_at s 0) (Text.four_at s 4) refl refl
+
+-- where the code has a group, it is a good one of its code and its bytes, and takes one at least
+pub told_char : (w : ℕ) (t u : List ℕ) (c : Char) → u ≡ t → told_group (Some c) ≡ Text.group_of w u → (Text.group_of w t ≡ Text.char c.code c.used) × (0 < c.used)
+told_char w t u c e h = (rw (sym e) (sym h), rw (sym h) at (group_takes w u))
+
+-- where the code has no group, it is a bad one
+pub told_wrong : (w : ℕ) (t u : List ℕ) → u ≡ t → told_group None ≡ Text.group_of w u → Text.group_of w t ≡ Text.wrong
+told_wrong w t u e h = rw (sym e) (sym h)
 
 -- what a `\X0` takes are bytes that are there
 pub closing_fits : (s : List ℕ) → Text.closing_taken s ≤ length s
@@ -291,12 +316,8 @@ closing_fits s = go (Text.is s 0 92 && (Text.is s 1 88 && Text.is s 2 48))
     go false = omega arith
 
 -- the bytes that the code's group took are there
-pub used_fits : (w : ℕ) (t u : List ℕ) (c : Char) → u ≡ t → told_group c ≡ Text.group_of w u → c.used ≤ length t
-used_fits w t u c e h = go (eqb c.used 0) refl
-  where
-    go : (b : Bool) → eqb c.used 0 ≡ b → c.used ≤ length t
-    go true p = let z = eqb-true c.used 0 p in omega arith
-    go false p =
-        let q : group_taken (Text.group_of w t) ≡ c.used = ap (λ (z : List ℕ). group_taken (Text.group_of w z)) (sym e) ∙ sym (ap group_taken h) ∙ rw p refl in
-        let f = group_fits w t in
-        omega arith
+pub used_fits : (w : ℕ) (t u : List ℕ) (c : Char) → u ≡ t → told_group (Some c) ≡ Text.group_of w u → c.used ≤ length t
+used_fits w t u c e h =
+    let q : group_taken (Text.group_of w t) ≡ c.used = ap group_taken (told_char w t u c e h).0 in
+    let f = group_fits w t in
+    omega arith

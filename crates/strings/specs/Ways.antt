@@ -1,6 +1,6 @@
 -- What each test of the code that reads a piece shows, one law for each way out (`short`, `long`, `directive`, `ordinary`, `step`); and what the loop
 -- over pieces keeps (`turn`, `turns`, `run`). Assumes nothing.
-use Rattle.std.specs.Prelude.{ℕ, ◌+◌, ◌≤◌, ◌<◌, ◌≡◌, Bool, ◌&&◌, List, [], ◌∷◌, ◌++◌, eqb, length, take, drop}
+use Rattle.std.specs.Prelude.{ℕ, ◌+◌, ◌≤◌, ◌<◌, ◌≡◌, Bool, ◌&&◌, List, [], ◌∷◌, ◌++◌, eqb, length, take, drop, Option, Some, None}
 use Rattle.std.proofs.Math.Path.{refl, ap}
 use Rattle.std.proofs.Common.{sym, ◌∙◌, append_assoc, append-nil, arith, length-drop, drop-drop}
 use Rattle.std.proofs.Math.Bool.{true, false}
@@ -14,11 +14,10 @@ use Rattle.utf8.specs.Answer.{valid, invalid}
 use Rattle.pages.specs.Pages.{page_of, code_of}
 use Rattle.pages.specs.Rules.{page_a}
 use Rattle.strings.specs.Text
-use Rattle.strings.specs.declared.Char.{Char}
 use Rattle.strings.specs.Code.{View, view_of, one_view, PiecePut, PlainPut, Turned}
 use Rattle.strings.specs.Put.{Laid, laid_nothing, laid_then, laid_chars}
 use Rattle.strings.specs.Answer.{largest_u64}
-use Rattle.strings.specs.Hex.{hex_found, hex_missed, two_below}
+use Rattle.strings.specs.Hex.{hex_found, hex_missed}
 use Rattle.strings.specs.PlainRuns.{text_plain, encode_plain, bytes_plain}
 use Rattle.strings.specs.Steps.{is_within, piece_fits, text_goes, text_on_ends, page_stays, plain_stays, page_named}
 
@@ -67,22 +66,22 @@ module _ (g : ℕ) (s : List ℕ) (x y z : ℕ) (ex : x ≡ byte_at s 1) (ey : y
 
       module _ (n3 : eqb x 84 && eqb y 92 ≡ false) where
         module _ (n4 : Text.is s 1 80 && Text.is s 3 92 ≡ false) (n5 : eqb x 83 && (eqb y 92 && leb 4 (length s)) ≡ false) where
-          module _ (v : ℕ) (ev : v ≡ pick (Text.two_at s 3) (Text.two_of s 3) 256) (h : eqb x 88 && eqb y 92 ≡ true) where
+          module _ (h : eqb x 88 && eqb y 92 ≡ true) where
             -- where the code's test for `X` and a backslash passes, both stand there
             octet : (Text.is s 1 88 ≡ true) × (Text.is s 2 92 ≡ true)
             octet = both (Text.is s 1 88) (Text.is s 2 92) (slashed 88 true h)
 
             -- where the code's tests for it pass: "`\X\HH` one octet"
-            pub is_octet : v < 256 → one_view v 5 ≡ view_of (Text.directive_of g s)
+            pub is_octet : (v : ℕ) → Some v ≡ pick (Text.two_at s 3) (Some (Text.two_of s 3)) None → one_view v 5 ≡ view_of (Text.directive_of g s)
             unfolding Text.directive_of
-            is_octet k =
-                let f = hex_found (Text.two_at s 3) (Text.two_of s 3) 256 v ev k in
+            is_octet v k =
+                let f = hex_found (Text.two_at s 3) (Text.two_of s 3) v k in
                 rw (first 92 false n1, slashed 78 false n2, slashed 84 false n3, n4, shifted false n5, octet.0, octet.1, f.0, f.1) refl
 
             -- no two hex digits stand after `\X\`: a directive with groups, or an unknown one
-            pub no_octet : 256 ≤ v → view_of (Text.long_of s) ≡ view_of (Text.directive_of g s)
+            pub no_octet : None ≡ pick (Text.two_at s 3) (Some (Text.two_of s 3)) None → view_of (Text.long_of s) ≡ view_of (Text.directive_of g s)
             unfolding Text.directive_of
-            no_octet k = rw (first 92 false n1, slashed 78 false n2, slashed 84 false n3, n4, shifted false n5, octet.0, octet.1, hex_missed (Text.two_at s 3) (Text.two_of s 3) 256 v (two_below s 3) ev k) refl
+            no_octet k = rw (first 92 false n1, slashed 78 false n2, slashed 84 false n3, n4, shifted false n5, octet.0, octet.1, hex_missed (Text.two_at s 3) (Text.two_of s 3) k) refl
 
           -- none of the short directives stands: a directive with groups, or an unknown one
           pub is_long : eqb x 88 && eqb y 92 ≡ false → view_of (Text.long_of s) ≡ view_of (Text.directive_of g s)
@@ -129,14 +128,6 @@ piece_put_view p q a o e k r h m = record { put = rw (sym (ap (λ (v : View). v.
 -- a piece of one character has been read where that character is put
 pub piece_put_one : (p : Text.Piece) (a : ℕ) (o : List ℕ) (e k c : ℕ) (r : List ℕ) → one_view c k ≡ view_of p → Laid a o (encode_all (c ∷ [])) e r → PiecePut p a o e k r
 piece_put_one p a o e k c r h l = record { put = rw (sym (ap (λ (v : View). v.written) h)) l; read = ap (λ (v : View). v.used) h }
-
--- where `short` took bytes, its character is what stands at the backslash
-pub short_some : (g : ℕ) (s : List ℕ) (c : Char) → pick (eqb c.used 0) (view_of (Text.long_of s)) (one_view c.code c.used) ≡ view_of (Text.directive_of g s) → (c.used ≡ 0 → ⊥) → one_view c.code c.used ≡ view_of (Text.directive_of g s)
-short_some g s c h n = sym (rw (ne_eqb c.used 0 n) refl) ∙ h
-
--- where `short` took no bytes a directive with groups, or an unknown one, stands
-pub short_none : (g : ℕ) (s : List ℕ) (c : Char) → pick (eqb c.used 0) (view_of (Text.long_of s)) (one_view c.code c.used) ≡ view_of (Text.directive_of g s) → c.used ≡ 0 → view_of (Text.long_of s) ≡ view_of (Text.directive_of g s)
-short_none g s c h n = sym (rw n refl) ∙ h
 
 module _ (s : List ℕ) (x y z : ℕ) (ex : x ≡ byte_at s 1) (ey : y ≡ byte_at s 2) (ez : z ≡ byte_at s 3) where
   -- `X`, a digit and a backslash, as the code tests it

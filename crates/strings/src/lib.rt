@@ -15,7 +15,7 @@ ghost use Rattle.common.specs.Pick.{pick};
 ghost use Rattle.utf8.specs.Utf8.{byte_at};
 ghost use Rattle.utf8.specs.Encoding.{encode_all};
 ghost use Rattle.strings.specs.Text.{hex_digit, hex_value, two_at, two_of, four_at, four_of, group_two, group_four, group_of, closing_taken, plain, character_of_code, surrogates_joined, is, long_of, directive_of, piece_of, page_after, extended, groups_from, bytes_of};
-ghost use Rattle.strings.specs.Code.{told_group, one_view, view_of, PiecePut, PlainPassed, PlainPut, Turned};
+ghost use Rattle.strings.specs.Code.{told_group, short_view, one_view, view_of, PiecePut, PlainPassed, PlainPut, Turned};
 ghost use Rattle.strings.specs.Answer.{decoded_of, room_after, shown_of, told_text, answer_of, largest_u64};
 ghost use Rattle.strings.specs.Put.{Laid};
 ghost use Rattle.strings.specs.PlainRuns.{special};
@@ -50,41 +50,41 @@ fn pair_value(a: u32, b: u32) -> u32
     hex_value(a) * 16 + hex_value(b)
 }
 
-// The number of two hex digits, or 256 where they are not.
-fn hex_two(s: &[u8], k: usize) -> u32
+// The number of two hex digits; none where they are not.
+fn hex_two(s: &[u8], k: usize) -> Option<u32>
     requires { k ≤ 8 }
-    ensures { result ≡ pick (two_at s.now k) (two_of s.now k) 256 }
+    ensures { result ≡ pick (two_at s.now k) (Some (two_of s.now k)) None }
 {
     if s.len() < k + 2 {
-        return 256;
+        return None;
     }
     let a = s[k] as u32;
     let b = s[k + 1] as u32;
     if is_hex(a) & is_hex(b) {
-        return pair_value(a, b);
+        return Some(pair_value(a, b));
     }
-    256
+    None
 }
 
-// The number of four hex digits, or 65536 where they are not: one test tells, once all four are read.
-fn hex_four(s: &[u8], k: usize) -> u32
+// The number of four hex digits; none where they are not: one test tells, once all four are read.
+fn hex_four(s: &[u8], k: usize) -> Option<u32>
     requires { k ≤ 4 }
-    ensures { result ≡ pick (four_at s.now k) (four_of s.now k) 65536 }
+    ensures { result ≡ pick (four_at s.now k) (Some (four_of s.now k)) None }
 {
     if s.len() < k + 4 {
-        return 65536;
+        return None;
     }
     let a = s[k] as u32;
     let b = s[k + 1] as u32;
     let c = s[k + 2] as u32;
     let d = s[k + 3] as u32;
     if (is_hex(a) & is_hex(b)) & (is_hex(c) & is_hex(d)) {
-        return pair_value(a, b) * 256 + pair_value(c, d);
+        return Some(pair_value(a, b) * 256 + pair_value(c, d));
     }
-    65536
+    None
 }
 
-// A character and how many bytes it took; none where it took no byte.
+// A character and how many bytes it took.
 #[derive(Clone, Copy)]
 struct Char {
     code: u32,
@@ -116,46 +116,37 @@ fn joined_code(h: u32, l: u32) -> u32
 }
 
 // A group of four hex digits, with a second one after a high surrogate.
-fn group_two(s: &[u8]) -> Char
+fn group_two(s: &[u8]) -> Option<Char>
     ensures { told_group result ≡ group_two s.now }
 {
-    let a = hex_four(s, 0);
-    if 65536 <= a {
-        return Char { code: 0, used: 0 };
-    }
+    let a = hex_four(s, 0)?;
     if (55296 <= a) & (a < 56320) {
-        let b = hex_four(s, 4);
-        if 65536 <= b {
-            return Char { code: 0, used: 0 };
-        }
-        return Char {
+        let b = hex_four(s, 4)?;
+        return Some(Char {
             code: joined_code(a, b),
             used: 8,
-        };
+        });
     }
-    Char {
+    Some(Char {
         code: shown_code(a),
         used: 4,
-    }
+    })
 }
 
 // A group of eight hex digits.
-fn group_four(s: &[u8]) -> Char
+fn group_four(s: &[u8]) -> Option<Char>
     ensures { told_group result ≡ group_four s.now }
 {
-    let a = hex_four(s, 0);
-    let b = hex_four(s, 4);
-    if (65536 <= a) | (65536 <= b) {
-        return Char { code: 0, used: 0 };
-    }
-    Char {
+    let a = hex_four(s, 0)?;
+    let b = hex_four(s, 4)?;
+    Some(Char {
         code: shown_code(a * 65536 + b),
         used: 8,
-    }
+    })
 }
 
 // A group of so many digits: four, or eight.
-fn group(s: &[u8], width: usize) -> Char
+fn group(s: &[u8], width: usize) -> Option<Char>
     ensures { told_group result ≡ group_of width s.now }
 {
     if width == 4 {
@@ -260,38 +251,35 @@ fn lay(s: &[u8], n: usize, out: &mut [u8], at: usize) -> usize
     end
 }
 
-// What follows a backslash while a page is in force, but for a `\P?\` and the directives with groups: one character; it took no byte where it
-// is no such directive. `\S\` is asked for first: a text on a page is full of it.
-fn short(s: &[u8], page: usize) -> Char
+// What follows a backslash while a page is in force, but for a `\P?\` and the directives with groups: one character; none where it is no such
+// directive. `\S\` is asked for first: a text on a page is full of it.
+fn short(s: &[u8], page: usize) -> Option<Char>
     requires { is s.now 1 80 && is s.now 3 92 ≡ false }
-    ensures { pick (eqb result.used 0) (view_of (long_of s.now)) (one_view result.code result.used) ≡ view_of (directive_of page s.now) }
+    ensures { short_view s.now result ≡ view_of (directive_of page s.now) }
 {
     let x = byte_at(s, 1);
     let y = byte_at(s, 2);
     let z = byte_at(s, 3);
     if (x == 83) & ((y == 92) & (4 <= s.len())) {
-        return Char {
+        return Some(Char {
             code: pages::code_on(page, z + 128),
             used: 4,
-        };
+        });
     }
     if x == 92 {
-        return Char { code: 92, used: 2 };
+        return Some(Char { code: 92, used: 2 });
     }
     if (x == 78) & (y == 92) {
-        return Char { code: 10, used: 3 };
+        return Some(Char { code: 10, used: 3 });
     }
     if (x == 84) & (y == 92) {
-        return Char { code: 9, used: 3 };
+        return Some(Char { code: 9, used: 3 });
     }
     if (x == 88) & (y == 92) {
-        let v = hex_two(s, 3);
-        if v < 256 {
-            return Char { code: v, used: 5 };
-        }
-        return Char { code: 0, used: 0 };
+        let v = hex_two(s, 3)?;
+        return Some(Char { code: v, used: 5 });
     }
-    Char { code: 0, used: 0 }
+    None
 }
 
 // What stands at a byte that is no backslash.
@@ -349,16 +337,14 @@ fn groups(s: &[u8], width: usize, out: &mut [u8], at: usize) -> Reached
                 used: i + closing_len(t),
             };
         }
-        let g = group(t, width);
-        let used = g.used;
-        if used == 0 {
+        let Some(g) = group(t, width) else {
             return Reached {
                 at: put_char(out, n, 92),
                 used: 1,
             };
-        }
+        };
         n = put_char(out, n, g.code);
-        i += used;
+        i += g.used;
     }
     Reached { at: n, used: i }
 }
@@ -406,12 +392,10 @@ fn directive(s: &[u8], page: usize, out: &mut [u8], at: usize) -> Advance
             page: pages::page_of(y),
         };
     }
-    let c = short(s, page);
-    let used = c.used;
-    if used != 0 {
+    if let Some(c) = short(s, page) {
         return Advance {
             at: put_char(out, at, c.code),
-            used,
+            used: c.used,
             page,
         };
     }

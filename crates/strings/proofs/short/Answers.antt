@@ -27,15 +27,15 @@ returns-then-x-y-3 c =
     let x = c.byte_at-x.result in
     is_tab c.args.page c.args.s.now x c.byte_at-y.result c.byte_at-z.result c.byte_at-x.ensures c.byte_at-y.ensures c.byte_at-z.ensures (ne_eqb x 92 (omega arith)) c.if-x-y-2.false c.if-x-y-3.true
 
-pub returns-then-v-lt256 : goal.returns-then-v-lt256
-returns-then-v-lt256 c =
+pub returns-in_err-v : goal.returns-in_err-v
+returns-in_err-v c =
     let x = c.byte_at-x.result in
-    is_octet c.args.page c.args.s.now x c.byte_at-y.result c.byte_at-z.result c.byte_at-x.ensures c.byte_at-y.ensures c.byte_at-z.ensures (ne_eqb x 92 (omega arith)) c.if-x-y-2.false c.if-x-y-3.false c.requires c.if-x-y.false c.hex_two-v.result c.hex_two-v.ensures c.if-x-y-4.true (omega arith)
+    rw c.from_residual.ensures (no_octet c.args.page c.args.s.now x c.byte_at-y.result c.byte_at-z.result c.byte_at-x.ensures c.byte_at-y.ensures c.byte_at-z.ensures (ne_eqb x 92 (omega arith)) c.if-x-y-2.false c.if-x-y-3.false c.requires c.if-x-y.false c.if-x-y-4.true c.in_err-v.ensures)
 
 pub returns-then-x-y-4 : goal.returns-then-x-y-4
 returns-then-x-y-4 c =
     let x = c.byte_at-x.result in
-    no_octet c.args.page c.args.s.now x c.byte_at-y.result c.byte_at-z.result c.byte_at-x.ensures c.byte_at-y.ensures c.byte_at-z.ensures (ne_eqb x 92 (omega arith)) c.if-x-y-2.false c.if-x-y-3.false c.requires c.if-x-y.false c.hex_two-v.result c.hex_two-v.ensures c.if-x-y-4.true (omega arith)
+    is_octet c.args.page c.args.s.now x c.byte_at-y.result c.byte_at-z.result c.byte_at-x.ensures c.byte_at-y.ensures c.byte_at-z.ensures (ne_eqb x 92 (omega arith)) c.if-x-y-2.false c.if-x-y-3.false c.requires c.if-x-y.false c.if-x-y-4.true _ c.in_ok-v.ensures
 
 pub returns : goal.returns
 returns c =
