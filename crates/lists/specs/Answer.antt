@@ -1,19 +1,17 @@
 -- Document 01, 'Parameters': what a list reads as, the next parameter read as one into lent room, and what the code's answers say. Assumes nothing.
 -- Definitions to be believed: no law, and nothing computed that no theorem ties (docs/BELIEVE.md).
-use Rattle.std.specs.Prelude.{ℕ, ◌+◌, ◌-◌, ◌≤◌, Bool, List, [], ◌∷◌, ◌++◌, leb, length, take, drop}
+use Rattle.std.specs.Prelude.{ℕ, ◌+◌, ◌-◌, ◌≤◌, Bool, List, [], ◌∷◌, ◌++◌, Result, Ok, Err, leb, length, take, drop}
 use Rattle.common.specs.Pick.{pick}
-use Rattle.error.specs.Refusal.{refusal, Told, good, bad, told}
-use Rattle.params.specs.Answer.{Read, reading, onward, read_mapped}
+use Rattle.error.specs.Refusal.{refusal, Told, good, bad}
+use Rattle.params.specs.Answer.{Read, onward, read_mapped}
 use Rattle.params.specs.Reader.{param_of}
 use Rattle.reals.specs.Scalar.{reference_of, whole_of}
 use Rattle.reals.specs.Which.{real_by}
 use Rattle.reals.specs.Answer.{Answer, read, refused}
-use Rattle.lists.specs.declared.Counted.{Counted}
-use Rattle.lists.specs.declared.Counted.TheVariants.{All, Wrong, Outside}
+use Rattle.scalars.specs.Answer.{number_of}
+use Rattle.lists.specs.declared.BadItem.{BadItem}
 use Rattle.lists.specs.declared.Kind.{Kind}
 use Rattle.lists.specs.declared.Kind as KindCode
-use Rattle.lists.specs.declared.ReadList as ReadListCode
-use Rattle.lists.specs.declared.NextList as NextListCode
 
 -- what a text reads as, or a refusal's number and how far into the text its place is
 pub data Fate (A : Type 0) : Type 0 where
@@ -66,17 +64,15 @@ abbrev pub written : {A : Type 0} → Told (List A) → List A → List A
 written (good vs) out = vs ++ drop (length vs) out
 written (bad q) out = out
 
--- what the code's count of a list tells: how many items were read, or the refusal
-abbrev pub told_counted : Counted → Fate ℕ
-told_counted (All n) = fine n
-told_counted (Wrong o) = faulty 12 o
-told_counted (Outside o) = faulty 13 o
+-- what the code says of a text that is read item by item: its value, or why and where an item of it does not read
+abbrev pub told_fate : {A : Type 0} → Result A BadItem → Fate A
+told_fate (Ok a) = fine a
+told_fate (Err b) = faulty (number_of b.why) b.place
 
--- the count of items, or the place of a refusal, that the code tells is at most n
-abbrev pub CountedIn : ℕ → Counted → Type 0
-CountedIn n (All k) = k ≤ n
-CountedIn n (Wrong o) = o ≤ n
-CountedIn n (Outside o) = o ≤ n
+-- the count of items, or the place of a bad one, that the code tells is at most n
+abbrev pub CountedIn : ℕ → Result ℕ BadItem → Type 0
+CountedIn n (Ok k) = k ≤ n
+CountedIn n (Err b) = b.place ≤ n
 
 -- whether a text reads
 abbrev pub mute : {A : Type 0} → Fate A → Fate (Unit {0})
@@ -88,18 +84,6 @@ kind_of KindCode.TheVariants.References t = mute (as_fate (reference_of t))
 kind_of KindCode.TheVariants.Integers t = mute (as_fate (whole_of t))
 kind_of (KindCode.TheVariants.Floats which) t = mute (as_fate (real_by which t))
 kind_of KindCode.TheVariants.Any t = fine tt
-
--- what the readers of a list's text answer: places are told from the text's start, and so 16 is at 0
-abbrev pub told_read_list : ReadListCode.ReadList → Told ℕ
-told_read_list (ReadListCode.TheVariants.Count n) = good n
-told_read_list (ReadListCode.TheVariants.Wrong o) = bad (refusal 12 0 o)
-told_read_list (ReadListCode.TheVariants.Outside o) = bad (refusal 13 0 o)
-told_read_list ReadListCode.TheVariants.Short = bad (refusal 16 0 0)
-
--- what the readers of lists answer
-abbrev pub told_next_list : NextListCode.NextList → Read ℕ
-told_next_list (NextListCode.TheVariants.Count n t) = reading (good n) t.place t.end
-told_next_list (NextListCode.TheVariants.Refused f t) = reading (bad (told f)) t.place t.end
 
 -- the values of a list that reads
 abbrev pub values_of : {A : Type 0} → Fate (List A) → List A

@@ -1,22 +1,20 @@
 -- Document 01, 'Parameters': lists and their items. "A list is `(`..`)`; its inside is handed on as a part and cut at depth-0 commas,
 -- items trimmed of whitespace only." One definition serves every kind of item: an item that is a list itself makes a grid.
 -- Assumes nothing.
-use Rattle.std.specs.Prelude.{ℕ, zero, suc, ◌+◌, ◌-◌, ◌≤◌, ◌≡◌, Bool, true, false, ◌&&◌, List, [], ◌∷◌, ◌++◌, eqb, length, take, drop, get_or}
+use Rattle.std.specs.Prelude.{ℕ, zero, suc, ◌+◌, ◌-◌, ◌≤◌, ◌≡◌, Bool, true, false, ◌&&◌, List, [], ◌∷◌, ◌++◌, Result, Ok, Err, eqb, length, take, drop, get_or}
 use Rattle.common.specs.Pick.{pick}
-use Rattle.error.specs.Refusal.{refusal, Told, good, bad}
 use Rattle.lex.specs.Byte.{white}
 use Rattle.record.specs.Text.{before, past}
 use Rattle.record.specs.Word.{trimmed}
 use Rattle.reals.specs.Answer.{Answer}
+use Rattle.reals.specs.declared.NotRead.{NotRead}
+use Rattle.scalars.specs.Answer.{number_of}
 use Rattle.params.specs.ParameterEnd.{cut_of}
 use Rattle.params.specs.Answer.{ParamEnd, stops_before, literal_open}
 use Rattle.lists.specs.Answer.{Fate, fine, faulty, shifted, as_fate, consed, values_of}
 use Rattle.lists.specs.declared.Item.{Item}
 use Rattle.lists.specs.declared.Shape.{Shape}
 use Rattle.lists.specs.declared.Shape.TheVariants.{NotList, Blank, Full}
-use Rattle.lists.specs.declared.Verdict.{Verdict}
-use Rattle.lists.specs.declared.Verdict as VerdictCode
-use Rattle.lists.specs.declared.ReadList as ReadListCode
 
 -- an item ends as a parameter does, and an open literal runs to the end of the list: the Rust; no list has one, since its parameter would
 -- have been 11
@@ -96,11 +94,6 @@ list_by g t = listed g (body_of t)
 abbrev pub list_of : {A : Type 0} → (List ℕ → Answer A) → List ℕ → Fate (List A)
 list_of f t = list_by (λ u. as_fate (f u)) t
 
--- a told answer seen from k bytes further back: only a refusal has a place
-abbrev pub moved : {A : Type 0} → ℕ → Told A → Told A
-moved k (good a) = good a
-moved k (bad q) = bad (refusal q.number q.reason (k + q.place))
-
 -- ---- what the code's parts promise
 
 -- an item of the list's inside b, from i on: its text, where that stands, and its comma or the end
@@ -119,18 +112,10 @@ ShapeAt t NotList = body_of t ≡ bare
 ShapeAt t Blank = (b : List ℕ) × (body_of t ≡ inside b) × (is_blank b ≡ true)
 ShapeAt t Full = (2 ≤ length t) × (body_of t ≡ inside (take (length t - 1 - 1) (drop 1 t))) × (is_blank (take (length t - 1 - 1) (drop 1 t)) ≡ false)
 
--- what the code's verdict on an item tells: whether it reads
-abbrev pub told_verdict : Verdict → Fate (Unit {0})
-told_verdict VerdictCode.TheVariants.Reads = fine tt
-told_verdict VerdictCode.TheVariants.Wrong = faulty 12 0
-told_verdict VerdictCode.TheVariants.Outside = faulty 13 0
-
--- how far into the text the place of a list's refusal is
-abbrev pub reached : ReadListCode.ReadList → ℕ
-reached (ReadListCode.TheVariants.Count n) = 0
-reached (ReadListCode.TheVariants.Wrong o) = o
-reached (ReadListCode.TheVariants.Outside o) = o
-reached ReadListCode.TheVariants.Short = 0
+-- what the code says of an item: whether it reads
+abbrev pub told_verdict : Result (Unit {0}) NotRead → Fate (Unit {0})
+told_verdict (Ok u) = fine tt
+told_verdict (Err w) = faulty (number_of w) 0
 
 -- a list reads, and there is room for its numbers
 abbrev pub Ready : {A : Type 0} → Fate (List A) → ℕ → Type 0

@@ -176,29 +176,29 @@ pub counted_reads : {A : Type 0} (x : Fate (List A)) (n : ℕ) → fine n ≡ fa
 counted_reads (fine vs) n e = (vs, refl, cc)
 counted_reads (faulty k o) n e = clash (cc)
 
--- What is told of a list from its count.
-module _ {A : Type 0} (x : Fate (List A)) (room : ℕ) (out : List A) where
+-- What is told of a list that starts at a, from its count.
+module _ {A : Type 0} (x : Fate (List A)) (room a : ℕ) (out : List A) where
   -- a list's count, tested against the room, is what is told of the list
-  tested : (a : Fate ℕ) → a ≡ fated length x → roomed (λ n. leb n room) 0 a ≡ count_of (roomed (fits_in room) 0 x)
-  tested a e = ap (roomed (λ (n : ℕ). leb n room) 0) e ∙ roomed_told length (λ (n : ℕ). leb n room) 0 x
+  tested : (c : Fate ℕ) → c ≡ fated length x → roomed (λ n. leb n room) a c ≡ count_of (roomed (fits_in room) a x)
+  tested c e = ap (roomed (λ (n : ℕ). leb n room) a) e ∙ roomed_told length (λ (n : ℕ). leb n room) a x
 
   -- a list with a bad item is refused, and the lent numbers stay as they were
-  pub kept_bad : (n o : ℕ) → faulty n o ≡ fated length x → (bad (refusal n 0 o) ≡ count_of (roomed (fits_in room) 0 x)) × (out ≡ written (roomed (fits_in room) 0 x) out)
+  pub kept_bad : (n o : ℕ) → faulty n o ≡ fated length x → (bad (refusal n 0 (a + o)) ≡ count_of (roomed (fits_in room) a x)) × (out ≡ written (roomed (fits_in room) a x) out)
   kept_bad n o e =
-      let q = roomed_bad (λ (n : ℕ). leb n room) n o (fated length x) e ∙ tested (fated length x) refl in
-      (q, room_refused x room (refusal n 0 o) out q)
+      let q = roomed_bad (λ (n : ℕ). leb n room) a n o (fated length x) e ∙ tested (fated length x) refl in
+      (q, room_refused x room a (refusal n 0 (a + o)) out q)
 
   -- a list with more items than there is room for is refused with 16, and the lent numbers stay as they were
-  pub kept_short : (n : ℕ) → fine n ≡ fated length x → room < n → (bad (refusal 16 0 0) ≡ count_of (roomed (fits_in room) 0 x)) × (out ≡ written (roomed (fits_in room) 0 x) out)
+  pub kept_short : (n : ℕ) → fine n ≡ fated length x → room < n → (bad (refusal 16 0 a) ≡ count_of (roomed (fits_in room) a x)) × (out ≡ written (roomed (fits_in room) a x) out)
   kept_short n e h =
-      let q = ap (λ (k : Bool). pick k (good n) (bad (refusal 16 0 0))) (sym (lt-leb n room h)) ∙ tested (fine n) e in
-      (q, room_refused x room (refusal 16 0 0) out q)
+      let q = ap (λ (k : Bool). pick k (good n) (bad (refusal 16 0 a))) (sym (lt-leb n room h)) ∙ tested (fine n) e in
+      (q, room_refused x room a (refusal 16 0 a) out q)
 
   -- a list that fits is told by its count, and its values are written into the lent numbers
-  pub kept_fits : (n : ℕ) (w : List A) → fine n ≡ fated length x → n ≤ room → w ≡ filled (values_of x) out → (good n ≡ count_of (roomed (fits_in room) 0 x)) × (w ≡ written (roomed (fits_in room) 0 x) out)
+  pub kept_fits : (n : ℕ) (w : List A) → fine n ≡ fated length x → n ≤ room → w ≡ filled (values_of x) out → (good n ≡ count_of (roomed (fits_in room) a x)) × (w ≡ written (roomed (fits_in room) a x) out)
   kept_fits n w e h k =
-      let q = ap (λ (k : Bool). pick k (good n) (bad (refusal 16 0 0))) (sym (le-leb n room h)) ∙ tested (fine n) e in
-      (q, room_written x room n out w q k)
+      let q = ap (λ (k : Bool). pick k (good n) (bad (refusal 16 0 a))) (sym (le-leb n room h)) ∙ tested (fine n) e in
+      (q, room_written x room a n out w q k)
 
 -- a list whose count fits is ready to be written, and what was kept of it is held
 pub kept_ready : {A : Type 0} (x : Fate (List A)) (room n : ℕ) (old new : List A) → fine n ≡ fated length x → n ≤ room → Kept x old new → Ready x room × ((n ≡ length (values_of x)) × Held x new)

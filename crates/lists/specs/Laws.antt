@@ -1,6 +1,6 @@
 -- What one item does to a list that is read, and what a text that is a list reads as: the laws that the code goes by.
 -- Assumes nothing.
-use Rattle.std.specs.Prelude.{ℕ, suc, ◌+◌, ◌-◌, ◌≤◌, ◌<◌, min, ◌≡◌, Bool, true, ◌&&◌, eqb, drop, get_or}
+use Rattle.std.specs.Prelude.{ℕ, Ok, Err, suc, ◌+◌, ◌-◌, ◌≤◌, ◌<◌, min, ◌≡◌, Bool, true, ◌&&◌, eqb, drop, get_or}
 use Rattle.std.proofs.Math.Path.{refl, sym, ap}
 use Rattle.std.proofs.Common.{◌∙◌, subst, length-take, ne_eqb}
 use Rattle.std.proofs.Math.Bool.{false}
@@ -16,29 +16,22 @@ use Rattle.record.specs.Word.{trimmed}
 use Rattle.scalars.specs.Laws.{part_part}
 use Rattle.params.specs.ParameterEnd.{cut_of}
 use Rattle.params.specs.Answer.{ended_at, EndedIn}
-use Rattle.params.specs.declared.Ended.{Ended}
-use Rattle.params.specs.declared.Ended.TheVariants.{At, Open}
+use Rattle.params.specs.declared.Cut.{Cut}
 use Rattle.lists.specs.declared.Item.{Item}
-use Rattle.lists.specs.Answer.{Fate, fine, faulty, shifted, fated, consed, CountedIn}
+use Rattle.lists.specs.Answer.{Fate, fine, faulty, shifted, fated, consed}
 use Rattle.lists.specs.Items.{bound_of, item_end, item_text, indent, item_by, headed, past_comma, items_from, is_none, is_blank, items_by, inside, bare, body_of, listed, list_by, ItemAt, ShapeAt}
 use Rattle.lists.specs.declared.Shape.{Shape}
 use Rattle.lists.specs.declared.Shape.TheVariants.{NotList, Blank, Full}
-use Rattle.lists.specs.declared.Counted.{Counted}
-use Rattle.lists.specs.declared.Counted.TheVariants.{All, Wrong, Outside}
 
--- where the code's search for a parameter's end finds it, the item ends
-pub end_found : (b : List ℕ) (i z p : ℕ) (r : Ended) → ended_at b r ≡ cut_of (drop i b) → r ≡ At z p → drop p b ≡ item_end (drop i b)
+-- where the code's search for a parameter's end finds it, the item ends there, at or after its start
+pub end_found : (b : List ℕ) (i a : ℕ) (c : Cut) → ended_at b (Ok c) ≡ cut_of (drop i b) → EndedIn a (length b) (Ok c) → (drop c.bound b ≡ item_end (drop i b)) × (a ≤ c.bound) × (c.bound ≤ length b)
 unfolding item_end
-end_found b i z p r h e = ap bound_of (ap (ended_at b) (sym e) ∙ h)
+end_found b i a c h (k, l, m) = (ap bound_of h, omega arith, m)
 
 -- an open literal runs to the end of the list
-pub end_open : (b : List ℕ) (i q : ℕ) (r : Ended) → ended_at b r ≡ cut_of (drop i b) → r ≡ Open q → drop (length b) b ≡ item_end (drop i b)
+pub end_open : (b : List ℕ) (i q : ℕ) → ended_at b (Err q) ≡ cut_of (drop i b) → drop (length b) b ≡ item_end (drop i b)
 unfolding item_end
-end_open b i q r h e = drop_end b (length b) (omega arith) ∙ ap bound_of (ap (ended_at b) (sym e) ∙ h)
-
--- where the code's search for a parameter's end finds it, its place p and its text's end z lie from a to n
-pub found_in : (a n z p : ℕ) (r : Ended) → EndedIn a n r → r ≡ At z p → (a ≤ z) × (z ≤ p) × (p ≤ n)
-found_in a n z p r h e = subst (EndedIn a n) e h
+end_open b i q h = drop_end b (length b) (omega arith) ∙ ap bound_of h
 
 -- the bytes of b from the place i up to the place j are the j - i bytes from i on
 pub between : (b : List ℕ) (i j : ℕ) → i ≤ j → j ≤ length b → before (drop i b) (drop j b) ≡ take (j - i) (drop i b)
@@ -259,15 +252,3 @@ told_full {A} f g t r h e a k =
     go : (x : Fate (List A)) → shifted 1 (fated f x) ≡ fated f (shifted 1 x)
     go (fine vs) = refl
     go (faulty n o) = refl
-
--- the place of a wrong item that the code tells lies in the list
-pub counted_wrong : (n o : ℕ) (r : Counted) → CountedIn n r → r ≡ Wrong o → o ≤ n
-counted_wrong n o r h e = subst (CountedIn n) e h
-
--- the place of an item outside the class lies in the list
-pub counted_outside : (n o : ℕ) (r : Counted) → CountedIn n r → r ≡ Outside o → o ≤ n
-counted_outside n o r h e = subst (CountedIn n) e h
-
--- there are no more items than places in the list
-pub counted_all : (n k : ℕ) (r : Counted) → CountedIn n r → r ≡ All k → k ≤ n
-counted_all n k r h e = subst (CountedIn n) e h

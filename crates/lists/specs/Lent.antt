@@ -1,5 +1,5 @@
 -- The lent numbers by the kind of item that is read into them, so that one loop serves all kinds. Assumes nothing.
-use Rattle.std.specs.Prelude.{ℕ, ◌≡◌, refl, Bool, List, [], map, ℤ, Float, length, set}
+use Rattle.std.specs.Prelude.{ℕ, ◌≡◌, refl, Bool, List, [], Result, Err, map, ℤ, Float, length, set}
 use Rattle.std.proofs.Common.{sym, ◌∙◌, ap, subst, arith}
 use Rattle.std.specs.Float.{binary64}
 use Rattle.std.specs.Float.Ieee.{to_bits}
@@ -8,7 +8,10 @@ use Rattle.reals.specs.Scalar.{reference_of, whole_of}
 use Rattle.reals.specs.Which.{real_by}
 use Rattle.lists.specs.declared.Kind.{Kind}
 use Rattle.lists.specs.declared.Kind.TheVariants.{References, Integers, Floats, Any}
-use Rattle.lists.specs.declared.Verdict.{Verdict}
+use Rattle.reals.specs.declared.NotRead.{NotRead}
+use Rattle.reals.specs.declared.NotRead.TheVariants.{Outside, NotReal}
+use Rattle.reals.specs.Answer.{told_real}
+use Rattle.scalars.specs.Answer.{number_of}
 use Rattle.lists.specs.Answer.{Fate, fine, faulty, fated, as_fate, mute, kind_of, fits_in}
 use Rattle.lists.specs.Items.{list_by, told_verdict}
 use Rattle.lists.specs.ReadLaws.{count_mute}
@@ -52,12 +55,17 @@ kept_at n (fine v) l = set l n v
 kept_at n (faulty k o) l = l
 
 -- what the code tells of an item and puts at its place, from what it reads as by its kind
-pub item_taken : (kind : Kind) (t : List ℕ) (n : ℕ) (r : Verdict) (refs refs' : List ℕ) (wholes wholes' : List ℤ) (reals reals' : List Float) (k : Kind) → kind ≡ k
+pub item_taken : (kind : Kind) (t : List ℕ) (n : ℕ) (r : Result (Unit {0}) NotRead) (refs refs' : List ℕ) (wholes wholes' : List ℤ) (reals reals' : List Float) (k : Kind) → kind ≡ k
     → (a : Fate (ItemValue k)) → a ≡ item_value k t → told_verdict r ≡ mute a → lent_of k refs' wholes' reals' ≡ kept_at n a (lent_of k refs wholes reals)
     → (told_verdict r ≡ mute (item_value kind t)) × (lent_of kind refs' wholes' reals' ≡ kept_at n (item_value kind t) (lent_of kind refs wholes reals))
 item_taken kind t n r refs refs' wholes wholes' reals reals' k e a told x y =
     subst (λ (k : Kind). (told_verdict r ≡ mute (item_value k t)) × (lent_of k refs' wholes' reals' ≡ kept_at n (item_value k t) (lent_of k refs wholes reals))) (sym e)
     (x ∙ ap (λ (z : Fate (ItemValue k)). mute z) told, y ∙ ap (λ (z : Fate (ItemValue k)). kept_at n z (lent_of k refs wholes reals)) told)
+
+-- a real that is not read is told by its number, and nothing is put at its place
+pub real_unread : (w : NotRead) (n : ℕ) (l : List ℕ) → (faulty (number_of w) 0 ≡ mute (as_fate (told_real (Err w)))) × (l ≡ kept_at n (as_fate (told_real (Err w))) l)
+real_unread Outside n l = (refl, refl)
+real_unread NotReal n l = (refl, refl)
 
 -- an item of a kind is refused at its start
 pub value_inward : (kind : Kind) → Inward (item_value kind)

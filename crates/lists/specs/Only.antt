@@ -1,26 +1,21 @@
--- "that two allowed answers coincide is proved": what the readers of lists tell is one answer of the code, and what they lay into a
+-- "that two allowed answers coincide is proved": what is told of a counted list is one answer of the code, as error/specs/Only.antt and
+-- params/specs/Only.antt have it of the readers of lists, and what they lay into a
 -- lent list is one list. Assumes nothing.
-use Rattle.std.specs.Prelude.{ℕ, ◌-◌, ◌≤◌, ◌≡◌, refl, List, [], ◌∷◌, map, T, eqb, Float, length, take, drop}
+use Rattle.std.specs.Prelude.{ℕ, ◌-◌, ◌≤◌, ◌≡◌, refl, List, [], ◌∷◌, map, T, Result, Ok, Err, Float, length, take, drop}
 use Rattle.std.proofs.Common.{sym, ◌∙◌, ap, arith, length-drop, length-take-le}
 use Rattle.std.specs.Float.{binary64}
 use Rattle.std.specs.Float.Ieee.{to_bits, fits}
-use Rattle.common.specs.Pick.{pick}
 use Rattle.common.specs.Compare.{clash}
-use Rattle.error.specs.Refusal.{Told, good, bad}
-use Rattle.error.specs.Only.{fault_of, fault_of_told}
-use Rattle.params.specs.Answer.{Read}
 use Rattle.nearest.specs.Only.{bits_only}
 use Rattle.lists.specs.declared.Item.{Item}
 use Rattle.lists.specs.declared.Shape.{Shape}
 use Rattle.lists.specs.declared.Shape.TheVariants.{NotList, Blank, Full}
-use Rattle.lists.specs.declared.Counted.{Counted}
-use Rattle.lists.specs.declared.Counted.TheVariants as counted
-use Rattle.lists.specs.declared.ReadList.{ReadList}
-use Rattle.lists.specs.declared.ReadList.TheVariants as reading
-use Rattle.lists.specs.declared.NextList.{NextList}
-use Rattle.lists.specs.declared.NextList.TheVariants as next
+use Rattle.reals.specs.declared.NotRead.{NotRead}
+use Rattle.reals.specs.declared.NotRead.TheVariants as NotReadCode
+use Rattle.scalars.specs.Answer.{number_of}
+use Rattle.lists.specs.declared.BadItem.{BadItem}
 use Rattle.lists.specs.Items.{ItemAt, ShapeAt}
-use Rattle.lists.specs.Answer.{Fate, fine, faulty, told_counted, told_read_list, told_next_list}
+use Rattle.lists.specs.Answer.{told_fate}
 
 -- two places in b from which the same rest goes are one place
 rest_place : (b : List ℕ) (i j : ℕ) → i ≤ length b → j ≤ length b → drop i b ≡ drop j b → i ≡ j
@@ -38,6 +33,13 @@ item_told_only b i r s h k =
     ∙ ap (λ (a : ℕ). record { start = s.start; stop = a; bound = r.bound }) y
     ∙ ap (λ (a : ℕ). record { start = s.start; stop = s.stop; bound = a }) z
 
+-- why an item does not read is told by its number
+why_only : (v w : NotRead) → number_of v ≡ number_of w → v ≡ w
+why_only NotReadCode.Outside NotReadCode.Outside e = refl
+why_only NotReadCode.Outside NotReadCode.NotReal e = absurd (omega arith)
+why_only NotReadCode.NotReal NotReadCode.Outside e = absurd (omega arith)
+why_only NotReadCode.NotReal NotReadCode.NotReal e = refl
+
 -- `shape_of`: at most one shape is what it may tell of a text
 pub shape_only : (t : List ℕ) (a b : Shape) → ShapeAt t a → ShapeAt t b → a ≡ b
 shape_only t NotList NotList h k = refl
@@ -50,53 +52,15 @@ shape_only t Full NotList (l, e, n) k = clash (cc)
 shape_only t Full Blank (l, f, m) (b, e, n) = clash (cc)
 shape_only t Full Full h k = refl
 
--- the count that tells this number or this refusal
-counted_of : Fate ℕ → Counted
-counted_of (fine n) = counted.All n
-counted_of (faulty n o) = pick (eqb n 13) (counted.Outside o) (counted.Wrong o)
-
--- a count is the one that is made from what it tells
-counted_back : (a : Counted) → counted_of (told_counted a) ≡ a
-unfolding counted_of
-counted_back (counted.All n) = refl
-counted_back (counted.Wrong o) = refl
-counted_back (counted.Outside o) = refl
-
--- `count_list`: two counts that tell the same are one
-pub counted_only : (a b : Counted) → told_counted a ≡ told_counted b → a ≡ b
-counted_only a b e = sym (counted_back a) ∙ ap counted_of e ∙ counted_back b
-
--- the answer to a list's text that tells this number or this refusal
-read_of : Told ℕ → ReadList
-read_of (good n) = reading.Count n
-read_of (bad q) = pick (eqb q.number 12) (reading.Wrong q.place) (pick (eqb q.number 13) (reading.Outside q.place) reading.Short)
-
--- an answer to a list's text is the one that is made from what it tells
-read_back : (a : ReadList) → read_of (told_read_list a) ≡ a
-unfolding read_of
-read_back (reading.Count n) = refl
-read_back (reading.Wrong o) = refl
-read_back (reading.Outside o) = refl
-read_back reading.Short = refl
-
--- `read_refs`, `read_wholes`, `read_reals`: two answers that tell the same are one
-pub read_only : (a b : ReadList) → told_read_list a ≡ told_read_list b → a ≡ b
-read_only a b e = sym (read_back a) ∙ ap read_of e ∙ read_back b
-
--- the answer of a reader of lists that tells this number or refusal, place and end
-next_of : Told ℕ → ℕ → ℕ → NextList
-next_of (good n) p e = next.Count n (record { place = p; end = e })
-next_of (bad q) p e = next.Refused (fault_of q) (record { place = p; end = e })
-
--- the answer of a reader of lists is the one that is made from what it tells
-next_back : (a : NextList) → next_of (told_next_list a).answer (told_next_list a).place (told_next_list a).end ≡ a
-unfolding next_of
-next_back (next.Count n t) = refl
-next_back (next.Refused f t) = ap (λ f. next.Refused f t) (fault_of_told f)
-
--- `next_ref_list`, `next_i64_list`, `next_f64_list`, `next_real_list`: two answers that tell the same are one
-pub next_list_only : (a b : NextList) → told_next_list a ≡ told_next_list b → a ≡ b
-next_list_only a b e = sym (next_back a) ∙ ap (λ (r : Read ℕ). next_of r.answer r.place r.end) e ∙ next_back b
+-- `count_list`: two answers that tell the same are one, and so of a grid's
+pub fate_only : {A : Type 0} (a b : Result A BadItem) → told_fate a ≡ told_fate b → a ≡ b
+fate_only (Ok x) (Ok y) e = cc
+fate_only (Ok x) (Err d) e = clash (cc)
+fate_only (Err c) (Ok y) e = clash (cc)
+fate_only (Err c) (Err d) e =
+    let n : number_of c.why ≡ number_of d.why = cc in
+    let o : c.place ≡ d.place = cc in
+    ap (λ (w : NotRead). Err (record { why = w; place = c.place })) (why_only c.why d.why n) ∙ ap (λ (i : ℕ). Err (record { why = d.why; place = i })) o
 
 -- every float of a lent list is an f64, as every value of the type is
 abbrev pub AllFit : List Float → Type 0

@@ -25,10 +25,8 @@ use Rattle.params.specs.ParameterEnd.{Stand, outside_literals, settled, passed, 
 use Rattle.params.specs.Reader.{bounded, param_begun, param_of}
 use Rattle.lists.specs.declared.Kind.{Kind}
 use Rattle.lists.specs.declared.Kind.TheVariants.{References, Integers, Floats, Any}
-use Rattle.lists.specs.declared.ReadList.{ReadList}
-use Rattle.lists.specs.declared.ReadList.TheVariants.{Count, Wrong, Outside, Short}
-use Rattle.lists.specs.Answer.{Fate, fine, faulty, shifted, fated, as_fate, kind_of, consed, roomed, next_by, fits_in, count_of, told_read_list}
-use Rattle.lists.specs.Items.{bound_of, item_end, item_text, indent, item_by, headed, past_comma, items_from, is_blank, items_by, inside, bare, body_of, listed, list_by, list_of, reached}
+use Rattle.lists.specs.Answer.{Fate, fine, faulty, shifted, fated, as_fate, kind_of, consed, roomed, next_by, fits_in}
+use Rattle.lists.specs.Items.{bound_of, item_end, item_text, indent, item_by, headed, past_comma, items_from, is_blank, items_by, inside, bare, body_of, listed, list_by, list_of}
 
 -- how far into a text its fault is; 0 where it has none
 abbrev pub offset : {A : Type 0} → Fate A → ℕ
@@ -221,17 +219,3 @@ next_placed g inward fits s p e q h = omega (arith, ap place_of h, next_inward g
 -- "a place from 0 to the input's length": every refusal of a reader of lists
 pub list_placed : {A : Type 0} (f : List ℕ → Answer A) (room : ℕ) (s : List ℕ) (p e : ℕ) (q : Refusal) → (next_by (list_of f) (fits_in room) s p e).answer ≡ bad q → q.place ≤ length s
 list_placed f room s p e q h = next_placed (list_of f) (list_inward (λ u. as_fate (f u)) (scalar_inward f)) (fits_in room) s p e q h
-
--- the place that the code tells of a list's text lies in that text
-pub read_inward : {A : Type 0} (g : List ℕ → Fate (List A)) → Inward g → (fits : List A → Bool) (t : List ℕ) (r : ReadList) → told_read_list r ≡ count_of (roomed fits 0 (g t)) → reached r ≤ length t
-read_inward {A} g inward fits t r e = omega (arith, told_reached r, ap place_of e, count_place (roomed fits 0 (g t)), roomed_inward g inward fits 0 t)
-  where
-    told_reached : (r : ReadList) → place_of (told_read_list r) ≡ reached r
-    told_reached (Count n) = refl
-    told_reached (Wrong o) = refl
-    told_reached (Outside o) = refl
-    told_reached Short = refl
-
-    count_place : (x : Told (List A)) → place_of (count_of x) ≡ place_of x
-    count_place (good vs) = refl
-    count_place (bad q) = refl

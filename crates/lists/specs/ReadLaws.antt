@@ -2,7 +2,7 @@
 use Prim.Native.Nat.{ℕ, zero, suc, ◌+◌, ◌-◌}
 use Rattle.std.specs.Prelude.{◌≡◌, Bool, take, drop}
 use Rattle.std.proofs.Math.Path.{refl, ap}
-use Rattle.std.proofs.Common.{sym, ◌∙◌, arith}
+use Rattle.std.proofs.Common.{sym, ◌∙◌}
 use Rattle.std.proofs.Math.Bool.{true, false}
 use mathlib.Core.List.{List, [], ◌∷◌, map}
 use Rattle.std.proofs.Math.ListN.{length}
@@ -10,12 +10,12 @@ use Rattle.std.proofs.lemmas.List.{length-map}
 use Rattle.common.specs.Pick.{pick}
 use Rattle.common.specs.Compare.{clash}
 use Rattle.error.specs.Refusal.{Refusal, refusal, Told, good, bad}
-use Rattle.params.specs.Answer.{reading, span, onward}
+use Rattle.params.specs.Answer.{reading, Span, onward}
 use Rattle.params.specs.Reader.{param_of}
 use Rattle.lists.specs.declared.Shape.{Shape}
 use Rattle.lists.specs.declared.Shape.TheVariants.{NotList, Full}
 use Rattle.lists.specs.Answer.{Fate, fine, faulty, shifted, fated, mute, consed, roomed, next_by, fits_in, count_of, how_many, written, values_of}
-use Rattle.lists.specs.Items.{item_end, item_text, indent, item_by, headed, past_comma, items_from, is_blank, items_by, Body, inside, bare, body_of, listed, list_by, moved, Ready, filled, ShapeAt}
+use Rattle.lists.specs.Items.{item_end, item_text, indent, item_by, headed, past_comma, items_from, is_blank, items_by, Body, inside, bare, body_of, listed, list_by, Ready, filled, ShapeAt}
 use Rattle.lists.specs.Laws.{list_none, list_full, shape_none, shape_full}
 
 -- Items told by h: the list is the one of those whose items are told by h.
@@ -89,20 +89,20 @@ roomed_told h fits a (fine v) = go (fits (h v))
     go false = refl
 roomed_told h fits a (faulty n o) = refl
 
--- a text that does not read is refused
-pub roomed_bad : {A : Type 0} (fits : A → Bool) (n o : ℕ) (x : Fate A) → faulty n o ≡ x → bad (refusal n 0 o) ≡ roomed fits 0 x
-roomed_bad fits n o x h = let e : o ≡ 0 + o = omega arith in ap (λ (p : ℕ). bad (refusal n 0 p)) e ∙ ap (roomed fits 0) h
+-- a text that starts at a and does not read is refused
+pub roomed_bad : {A : Type 0} (fits : A → Bool) (a n o : ℕ) (x : Fate A) → faulty n o ≡ x → bad (refusal n 0 (a + o)) ≡ roomed fits a x
+roomed_bad fits a n o x h = ap (roomed fits a) h
 
 -- a text of which something is told reads and fits
-pub roomed_good : {A B : Type 0} (h : A → B) (fits : A → Bool) (x : Fate A) (b : B) → good b ≡ onward (λ v. good (h v)) (roomed fits 0 x)
-    → (v : A) × (x ≡ fine v) × (fits v ≡ true) × (roomed fits 0 x ≡ good v)
-roomed_good {A} {B} h fits (fine v) b e = go (fits v) refl e
+pub roomed_good : {A B : Type 0} (h : A → B) (fits : A → Bool) (a : ℕ) (x : Fate A) (b : B) → good b ≡ onward (λ v. good (h v)) (roomed fits a x)
+    → (v : A) × (x ≡ fine v) × (fits v ≡ true) × (roomed fits a x ≡ good v)
+roomed_good {A} {B} h fits a (fine v) b e = go (fits v) refl e
   where
-    go : (k : Bool) → fits v ≡ k → good b ≡ onward (λ w. good (h w)) (pick k (good v) (bad (refusal 16 0 0)))
-        → (w : A) × (fine v ≡ fine w) × (fits w ≡ true) × (pick (fits v) (good v) (bad (refusal 16 0 0)) ≡ good w)
+    go : (k : Bool) → fits v ≡ k → good b ≡ onward (λ w. good (h w)) (pick k (good v) (bad (refusal 16 0 a)))
+        → (w : A) × (fine v ≡ fine w) × (fits w ≡ true) × (pick (fits v) (good v) (bad (refusal 16 0 a)) ≡ good w)
     go true k e = (v, refl, k, rw k refl)
     go false k e = clash (cc)
-roomed_good h fits (faulty n o) b e = clash (cc)
+roomed_good h fits a (faulty n o) b e = clash (cc)
 
 -- a refusal is told as itself
 pub onward_bad : {A B : Type 0} (h : A → B) (x : Told A) (q : Refusal) → bad q ≡ onward (λ v. good (h v)) x → x ≡ bad q
@@ -110,31 +110,12 @@ onward_bad h (good v) q e = clash (cc)
 onward_bad h (bad p) q e = let k : p ≡ q = cc in ap bad k
 
 -- a list that is counted is written
-pub room_written : {A : Type 0} (x : Fate (List A)) (room n : ℕ) (out w : List A) → good n ≡ count_of (roomed (fits_in room) 0 x) → w ≡ filled (values_of x) out → w ≡ written (roomed (fits_in room) 0 x) out
-room_written x room n out w e h = let (v, k, l, r) = roomed_good length (fits_in room) x n e in rw r (rw k at h)
+pub room_written : {A : Type 0} (x : Fate (List A)) (room a n : ℕ) (out w : List A) → good n ≡ count_of (roomed (fits_in room) a x) → w ≡ filled (values_of x) out → w ≡ written (roomed (fits_in room) a x) out
+room_written x room a n out w e h = let (v, k, l, r) = roomed_good length (fits_in room) a x n e in rw r (rw k at h)
 
 -- a list that is refused leaves the lent numbers as they were
-pub room_refused : {A : Type 0} (x : Fate (List A)) (room : ℕ) (q : Refusal) (out : List A) → bad q ≡ count_of (roomed (fits_in room) 0 x) → out ≡ written (roomed (fits_in room) 0 x) out
-room_refused x room q out e = rw (onward_bad length (roomed (fits_in room) 0 x) q e) refl
-
--- what is told of a text that stands at a is what is told of it at 0, moved by a
-roomed_moved : {A : Type 0} (fits : A → Bool) (a : ℕ) (x : Fate A) → roomed fits a x ≡ moved a (roomed fits 0 x)
-roomed_moved fits a (fine v) = go (fits v)
-  where
-    go : (k : Bool) → pick k (good v) (bad (refusal 16 0 a)) ≡ moved a (pick k (good v) (bad (refusal 16 0 0)))
-    go true = refl
-    go false = let e : a ≡ a + 0 = omega arith in ap (λ (p : ℕ). bad (refusal 16 0 p)) e
-roomed_moved fits a (faulty n o) = let e : a + o ≡ a + (0 + o) = omega arith in ap (λ (p : ℕ). bad (refusal n 0 p)) e
-
--- what f makes of a told value is the same moved by a: only a refusal has a place
-pub moved_told : {A B : Type 0} (f : A → B) (a : ℕ) (x : Told A) → moved a (onward (λ v. good (f v)) x) ≡ onward (λ v. good (f v)) (moved a x)
-moved_told f a (good v) = refl
-moved_told f a (bad q) = refl
-
--- a told list writes the same numbers moved by a: only a refusal has a place
-pub moved_written : {A : Type 0} (a : ℕ) (x : Told (List A)) (out : List A) → written x out ≡ written (moved a x) out
-moved_written a (good vs) out = refl
-moved_written a (bad q) out = refl
+pub room_refused : {A : Type 0} (x : Fate (List A)) (room a : ℕ) (q : Refusal) (out : List A) → bad q ≡ count_of (roomed (fits_in room) a x) → out ≡ written (roomed (fits_in room) a x) out
+room_refused x room a q out e = rw (onward_bad length (roomed (fits_in room) a x) q e) refl
 
 -- The next parameter, read by g, from what the code cuts.
 module _ {A : Type 0} (g : List ℕ → Fate A) (fits : A → Bool) (s : List ℕ) (p e : ℕ) where
@@ -143,10 +124,10 @@ module _ {A : Type 0} (g : List ℕ → Fate A) (fits : A → Bool) (s : List �
   unfolding next_by
   next_uncut q p' e' h = rw (← h) refl
 
-  -- where a parameter is cut, its text is read, and a refusal is moved to its place in the file
-  pub next_cut : (a z p' e' : ℕ) → reading (good (span a z)) p' e' ≡ param_of s p e → reading (moved a (roomed fits 0 (g (take (z - a) (drop a s))))) p' e' ≡ next_by g fits s p e
+  -- where a parameter is cut, its text is read from its place in the file
+  pub next_cut : (w : Span) (p' e' : ℕ) → reading (good w) p' e' ≡ param_of s p e → reading (roomed fits w.start (g (take (w.stop - w.start) (drop w.start s)))) p' e' ≡ next_by g fits s p e
   unfolding next_by
-  next_cut a z p' e' h = rw (← h) (ap (λ (x : Told A). reading x p' e') (sym (roomed_moved fits a (g (take (z - a) (drop a s))))))
+  next_cut w p' e' h = rw (← h) refl
 
 module _ {A : Type 0} (g : List ℕ → Fate (List A)) (out : List A) (room : ℕ) (s : List ℕ) (p e : ℕ) where
   -- where no parameter is cut, a reader of lists answers the cut's refusal, and the lent list stays as it was
@@ -154,16 +135,12 @@ module _ {A : Type 0} (g : List ℕ → Fate (List A)) (out : List A) (room : �
       → (reading (bad q) p' e' ≡ how_many (next_by g (fits_in room) s p e)) × (out ≡ written (next_by g (fits_in room) s p e).answer out)
   lists_uncut q p' e' h = let k = next_uncut g (fits_in room) s p e q p' e' h in (rw (← k) refl, rw (← k) refl)
 
-  -- where a parameter is cut, a reader of lists answers its text's count, or its refusal moved to the file, and writes what the text's list writes
-  pub lists_cut : (a z p' e' : ℕ) → reading (good (span a z)) p' e' ≡ param_of s p e → (r : Told ℕ) (w : List A) → r ≡ count_of (roomed (fits_in room) 0 (g (take (z - a) (drop a s))))
-      → w ≡ written (roomed (fits_in room) 0 (g (take (z - a) (drop a s)))) out
-      → (reading (moved a r) p' e' ≡ how_many (next_by g (fits_in room) s p e)) × (w ≡ written (next_by g (fits_in room) s p e).answer out)
-  lists_cut a z p' e' h r w k l =
-      let x = roomed (fits_in room) 0 (g (take (z - a) (drop a s))) in
-      let n = next_cut g (fits_in room) s p e a z p' e' h in (
-        rw (← n) (ap (λ (y : Told ℕ). reading y p' e') (ap (moved a) k ∙ moved_told length a x)),
-        rw (← n) (l ∙ moved_written a x out),
-      )
+  -- where a parameter is cut, a reader of lists answers its text's count or refusal, and writes what the text's list writes
+  pub lists_cut : (w : Span) (p' e' : ℕ) → reading (good w) p' e' ≡ param_of s p e → (r : Told ℕ) (v : List A) → r ≡ count_of (roomed (fits_in room) w.start (g (take (w.stop - w.start) (drop w.start s))))
+      → v ≡ written (roomed (fits_in room) w.start (g (take (w.stop - w.start) (drop w.start s)))) out
+      → (reading r p' e' ≡ how_many (next_by g (fits_in room) s p e)) × (v ≡ written (next_by g (fits_in room) s p e).answer out)
+  lists_cut w p' e' h r v k l =
+      let n = next_cut g (fits_in room) s p e w p' e' h in (rw (← n) (ap (λ (y : Told ℕ). reading y p' e') k), rw (← n) l)
 
 -- what a list that reads writes, by what it is
 module _ {A : Type 0} (g : List ℕ → Fate A) (t : List ℕ) (r : Shape) (h : ShapeAt t r) (room : ℕ) (fit : Ready (list_by g t) room) where

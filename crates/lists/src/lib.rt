@@ -6,20 +6,22 @@
 // lists of lists and lists of any length.
 #![tactic(auto)]
 
-ghost use Rattle.std.specs.Prelude.{◌≡◌, ◌+◌, ◌-◌, ◌≤◌, ◌<◌, ◌^◌, min, [], ◌++◌, map, length, take, drop, set};
+ghost use Rattle.std.specs.Prelude.{◌≡◌, ◌+◌, ◌-◌, ◌≤◌, ◌<◌, ◌^◌, min, [], map, length, drop, set};
 ghost use Rattle.std.specs.Float.{binary64};
 ghost use Rattle.std.specs.Float.Ieee.{to_bits};
-ghost use Rattle.params.specs.Answer.{reading};
+ghost use Rattle.error.specs.Refusal.{told, told_result, refusal};
+ghost use Rattle.params.specs.Answer.{told_read};
 ghost use Rattle.reals.specs.Scalar.{reference_of, whole_of, real_of};
 ghost use Rattle.reals.specs.Which.{real_by};
-ghost use Rattle.lists.specs.Items.{moved, reached, item_end, ItemAt, told_verdict, ShapeAt, items_in, list_by, list_of, Ready, filled, Kept, Held};
-ghost use Rattle.lists.specs.Answer.{roomed, count_of, told_read_list, CountedIn, told_counted, fated, mute, kind_of, values_of, next_by, fits_in, how_many, written, told_next_list};
+ghost use Rattle.lists.specs.Items.{item_end, ItemAt, told_verdict, ShapeAt, items_in, list_by, list_of, Ready, filled, Kept, Held};
+ghost use Rattle.lists.specs.Answer.{roomed, count_of, CountedIn, told_fate, fated, mute, kind_of, values_of, next_by, fits_in, how_many, written};
+ghost use Rattle.scalars.specs.Answer.{number_of};
 ghost use Rattle.lists.specs.Lent.{item_value, lent_of, kind_room, fits_by, kept_at};
 ghost use Rattle.lists.specs.Read.{list_read};
 
 use error::Fault;
-use params::{Ended, NextParam, State};
-use reals::{Real, Reals, Reference, Whole};
+use params::State;
+use reals::{NotRead, Reals};
 
 // An item without the whitespace at its ends, and its comma or the end of the list.
 #[derive(Clone, Copy)]
@@ -46,36 +48,32 @@ pub enum Kind {
     Any,
 }
 
-// Whether an item reads: yes, or 12, or 13.
-#[derive(Clone, Copy)]
-enum Verdict {
-    Reads,
-    Wrong,
-    Outside,
+// Why an item of a text does not read, and how far into the text it stands. What is no reference, integer or list is not read either: 12.
+#[derive(Clone, Copy, PartialEq, Eq)]
+pub struct BadItem {
+    pub why: NotRead,
+    pub place: usize,
 }
 
-// How many items there are, or the place of the first bad one: 12, or 13.
-#[derive(Clone, Copy)]
-pub enum Counted {
-    All(usize),
-    Wrong(usize),
-    Outside(usize),
-}
+impl BadItem {
+    // The same, seen from so many bytes further back.
+    pub fn moved(self, by: usize) -> BadItem
+        requires { by + self.place < 2 ^ 63 }
+        ensures { result ≡ record { why = self.why; place = by + self.place } }
+    {
+        BadItem {
+            why: self.why,
+            place: by + self.place,
+        }
+    }
 
-// How many numbers of a text were written; or how far into it the first bad item is: 12, or 13; or that they do not fit: 16.
-#[derive(Clone, Copy)]
-pub enum ReadList {
-    Count(usize),
-    Wrong(usize),
-    Outside(usize),
-    Short,
-}
-
-// How many numbers were written, or a refusal.
-#[derive(Clone, Copy)]
-pub enum NextList {
-    Count(usize, State),
-    Refused(Fault, State),
+    // The refusal of the text that starts at `start`.
+    pub fn fault(self, start: usize) -> Fault
+        requires { start + self.place < 2 ^ 63 }
+        ensures { told result ≡ refusal (number_of self.why) 0 (start + self.place) }
+    {
+        scalars::refused_real(self.why, start + self.place)
+    }
 }
 
 // Where the item ends that begins at i: at its comma, or with the list.
@@ -85,8 +83,8 @@ fn item_end(b: &[u8], i: usize) -> usize
     ensures lower_bound { (i ≤ result) × (result ≤ length b.now) }
 {
     match params::param_end(b, i) {
-        Ended::At(_, p) => p,
-        Ended::Open(_) => b.len(),
+        Ok(cut) => cut.bound,
+        Err(_) => b.len(),
     }
 }
 
@@ -94,7 +92,7 @@ fn item_end(b: &[u8], i: usize) -> usize
 pub fn item_at(b: &[u8], i: usize) -> Item
     ensures { ItemAt b.now (min i (length b.now)) result }
 {
-    let from = common::within(i, b.len());
+    let from = i.min(b.len());
     let bound = item_end(b, from);
     let w = scalars::trim(&b[from..bound]);
     Item {
@@ -124,30 +122,12 @@ pub fn shape_of(t: &[u8]) -> Shape
     Shape::Full
 }
 
-// Keeps a reference at its place, if there is such a place.
-fn keep_ref(refs: &mut [u32], n: usize, v: u32)
-    ensures { refs.new ≡ set refs.old n v }
+// Keeps a number at its place, if there is such a place.
+fn keep<T: Copy>(out: &mut [T], n: usize, v: T)
+    ensures { out.new ≡ set out.old n v }
 {
-    if n < refs.len() {
-        refs[n] = v;
-    }
-}
-
-// Keeps an integer at its place, if there is such a place.
-fn keep_whole(wholes: &mut [i64], n: usize, v: i64)
-    ensures { wholes.new ≡ set wholes.old n v }
-{
-    if n < wholes.len() {
-        wholes[n] = v;
-    }
-}
-
-// Keeps a real at its place, if there is such a place.
-fn keep_real(reals: &mut [f64], n: usize, v: f64)
-    ensures { reals.new ≡ set reals.old n v }
-{
-    if n < reals.len() {
-        reals[n] = v;
+    if n < out.len() {
+        out[n] = v;
     }
 }
 
@@ -159,36 +139,27 @@ fn take_item(
     refs: &mut [u32],
     wholes: &mut [i64],
     reals: &mut [f64],
-) -> Verdict
+) -> Result<(), NotRead>
     ensures result_value { told_verdict result ≡ mute (item_value kind t.now) }
     ensures reals_after { lent_of kind refs.new wholes.new reals.new
         ≡ kept_at n (item_value kind t.now) (lent_of kind refs.old wholes.old reals.old) }
 {
     match kind {
         Kind::References => match reals::parse_ref(t) {
-            Reference::Value(v) => {
-                keep_ref(refs, n, v);
-                Verdict::Reads
-            }
-            Reference::NotReference => Verdict::Wrong,
+            Some(v) => keep(refs, n, v),
+            None => return Err(NotRead::NotReal),
         },
         Kind::Integers => match reals::parse_int(t) {
-            Whole::Value(v) => {
-                keep_whole(wholes, n, v);
-                Verdict::Reads
-            }
-            Whole::NotWhole => Verdict::Wrong,
+            Some(v) => keep(wholes, n, v),
+            None => return Err(NotRead::NotReal),
         },
         Kind::Floats(which) => match reals::read_real(which, t) {
-            Real::Value(v) => {
-                keep_real(reals, n, v);
-                Verdict::Reads
-            }
-            Real::Outside => Verdict::Outside,
-            Real::NotReal => Verdict::Wrong,
+            Ok(v) => keep(reals, n, v),
+            Err(why) => return Err(why),
         },
-        Kind::Any => Verdict::Reads,
+        Kind::Any => {}
     }
+    Ok(())
 }
 
 // Reads the items of a list's inside and keeps the first of them, as many as there is room for; or finds the first bad one.
@@ -198,8 +169,8 @@ fn take_items(
     refs: &mut [u32],
     wholes: &mut [i64],
     reals: &mut [f64],
-) -> Counted
-    ensures result_value { told_counted result ≡ fated length (items_in (item_value kind) b.now) }
+) -> Result<usize, BadItem>
+    ensures result_value { told_fate result ≡ fated length (items_in (item_value kind) b.now) }
     ensures counted_in { CountedIn (length b.now + 1) result }
     ensures kept { Kept (items_in (item_value kind) b.now)
         (lent_of kind refs.old wholes.old reals.old)
@@ -209,18 +180,20 @@ fn take_items(
     let mut n: usize = 0;
     loop {
         let w = item_at(b, i);
-        let start = w.start;
-        let stop = w.stop;
-        let bound = w.bound;
-        match take_item(kind, &b[start..stop], n, refs, wholes, reals) {
-            Verdict::Reads => n += 1,
-            Verdict::Wrong => return Counted::Wrong(start),
-            Verdict::Outside => return Counted::Outside(start),
+        let t = &b[w.start..w.stop];
+        match take_item(kind, t, n, refs, wholes, reals) {
+            Ok(()) => n += 1,
+            Err(why) => {
+                return Err(BadItem {
+                    why,
+                    place: w.start,
+                });
+            }
         }
-        if bound == b.len() {
-            return Counted::All(n);
+        if w.bound == b.len() {
+            return Ok(n);
         }
-        i = bound + 1;
+        i = w.bound + 1;
     }
 }
 
@@ -231,30 +204,32 @@ fn take_list(
     refs: &mut [u32],
     wholes: &mut [i64],
     reals: &mut [f64],
-) -> Counted
-    ensures result_value { told_counted result ≡ fated length (list_by (item_value kind) t.now) }
+) -> Result<usize, BadItem>
+    ensures result_value { told_fate result ≡ fated length (list_by (item_value kind) t.now) }
     ensures counted_in { CountedIn (length t.now) result }
     ensures kept { Kept (list_by (item_value kind) t.now)
         (lent_of kind refs.old wholes.old reals.old)
         (lent_of kind refs.new wholes.new reals.new) }
 {
     match shape_of(t) {
-        Shape::NotList => Counted::Wrong(0),
-        Shape::Blank => Counted::All(0),
+        Shape::NotList => Err(BadItem {
+            why: NotRead::NotReal,
+            place: 0,
+        }),
+        Shape::Blank => Ok(0),
         Shape::Full => {
             let n = t.len();
             match take_items(kind, &t[1..n - 1], refs, wholes, reals) {
-                Counted::All(k) => Counted::All(k),
-                Counted::Wrong(o) => Counted::Wrong(1 + o),
-                Counted::Outside(o) => Counted::Outside(1 + o),
+                Ok(k) => Ok(k),
+                Err(bad) => Err(bad.moved(1)),
             }
         }
     }
 }
 
 // Counts the items of a list, or finds what is wrong with it.
-pub fn count_list(t: &[u8], kind: Kind) -> Counted
-    ensures result_value { told_counted result ≡ fated length (list_by (kind_of kind) t.now) }
+pub fn count_list(t: &[u8], kind: Kind) -> Result<usize, BadItem>
+    ensures result_value { told_fate result ≡ fated length (list_by (kind_of kind) t.now) }
     ensures counted_in { CountedIn (length t.now) result }
 {
     let mut refs: [u32; 0] = [];
@@ -275,18 +250,6 @@ fn room_of(kind: Kind, refs: usize, wholes: usize, reals: usize) -> usize
     }
 }
 
-// Writes the first n of the reals that were kept.
-fn lay_reals(first: &[f64], n: usize, out: &mut [f64])
-    requires { (n ≤ length first.now) × (n ≤ length out.old) }
-    ensures { out.new ≡ take n first.now ++ drop n out.old }
-{
-    let mut i: usize = 0;
-    while i < n {
-        out[i] = first[i];
-        i += 1;
-    }
-}
-
 // Writes the n numbers of a list, the first of which were kept if they are reals: only what is not all kept is gone through again.
 fn write_list(
     kind: Kind,
@@ -304,45 +267,46 @@ fn write_list(
         ≡ filled (values_of (list_by (item_value kind) t.now)) (lent_of kind refs.old wholes.old reals.old) }
 {
     if n <= room_of(kind, 0, 0, first.len()) {
-        lay_reals(first, n, reals);
+        reals[..n].copy_from_slice(&first[..n]);
         return;
     }
-    take_list(kind, t, refs, wholes, reals);
+    // It reads, as the first pass found.
+    let _ = take_list(kind, t, refs, wholes, reals);
 }
 
-// Reads the text of a list into the lent numbers of its kind. Most lists are the coordinates of one point, and a real takes long to
-// read: as many as `first` has places for are written from the first pass.
+// Reads the text of a list, which starts at `start`, into the lent numbers of its kind. Most lists are the coordinates of one point, and a
+// real takes long to read: as many as `first` has places for are written from the first pass.
 fn read_list(
     kind: Kind,
+    start: usize,
     t: &[u8],
     first: &mut [f64],
     refs: &mut [u32],
     wholes: &mut [i64],
     reals: &mut [f64],
-) -> ReadList
-    ensures result_value { told_read_list result ≡ count_of (roomed (fits_by kind refs.old wholes.old reals.old) 0 (list_by (item_value kind) t.now)) }
+) -> Result<usize, Fault>
+    requires { start + length t.now < 2 ^ 63 }
+    ensures result_value { told_result result ≡ count_of (roomed (fits_by kind refs.old wholes.old reals.old) start (list_by (item_value kind) t.now)) }
     ensures reals_after { lent_of kind refs.new wholes.new reals.new
-        ≡ written (roomed (fits_by kind refs.old wholes.old reals.old) 0 (list_by (item_value kind) t.now))
+        ≡ written (roomed (fits_by kind refs.old wholes.old reals.old) start (list_by (item_value kind) t.now))
         (lent_of kind refs.old wholes.old reals.old) }
 {
     let mut no_refs: [u32; 0] = [];
     let mut no_wholes: [i64; 0] = [];
-    match take_list(kind, t, &mut no_refs, &mut no_wholes, first) {
-        Counted::Wrong(o) => ReadList::Wrong(o),
-        Counted::Outside(o) => ReadList::Outside(o),
-        Counted::All(n) => {
-            if room_of(kind, refs.len(), wholes.len(), reals.len()) < n {
-                return ReadList::Short;
-            }
-            write_list(kind, t, first, n, refs, wholes, reals);
-            ReadList::Count(n)
-        }
+    let n = match take_list(kind, t, &mut no_refs, &mut no_wholes, first) {
+        Ok(n) => n,
+        Err(bad) => return Err(bad.fault(start)),
+    };
+    if room_of(kind, refs.len(), wholes.len(), reals.len()) < n {
+        return Err(Fault::TooShort(start));
     }
+    write_list(kind, t, first, n, refs, wholes, reals);
+    Ok(n)
 }
 
-// Reads the text of a list of references into lent numbers.
-pub fn read_refs(t: &[u8], out: &mut [u32]) -> ReadList
-    ensures result_value { told_read_list result ≡ count_of (roomed (fits_in (length out.old)) 0 (list_of reference_of t.now)) }
+// Reads the text of a list of references into lent numbers; places are told from the text's start.
+pub fn read_refs(t: &[u8], out: &mut [u32]) -> Result<usize, Fault>
+    ensures result_value { told_result result ≡ count_of (roomed (fits_in (length out.old)) 0 (list_of reference_of t.now)) }
     ensures out_after { out.new ≡ written (roomed (fits_in (length out.old)) 0 (list_of reference_of t.now)) out.old }
 {
     let mut first: [f64; 0] = [];
@@ -350,6 +314,7 @@ pub fn read_refs(t: &[u8], out: &mut [u32]) -> ReadList
     let mut reals: [f64; 0] = [];
     read_list(
         Kind::References,
+        0,
         t,
         &mut first,
         out,
@@ -358,20 +323,20 @@ pub fn read_refs(t: &[u8], out: &mut [u32]) -> ReadList
     )
 }
 
-// Reads the text of a list of integers into lent numbers.
-pub fn read_wholes(t: &[u8], out: &mut [i64]) -> ReadList
-    ensures result_value { told_read_list result ≡ count_of (roomed (fits_in (length out.old)) 0 (list_of whole_of t.now)) }
+// Reads the text of a list of integers into lent numbers; places are told from the text's start.
+pub fn read_wholes(t: &[u8], out: &mut [i64]) -> Result<usize, Fault>
+    ensures result_value { told_result result ≡ count_of (roomed (fits_in (length out.old)) 0 (list_of whole_of t.now)) }
     ensures out_after { out.new ≡ written (roomed (fits_in (length out.old)) 0 (list_of whole_of t.now)) out.old }
 {
     let mut first: [f64; 0] = [];
     let mut refs: [u32; 0] = [];
     let mut reals: [f64; 0] = [];
-    read_list(Kind::Integers, t, &mut first, &mut refs, out, &mut reals)
+    read_list(Kind::Integers, 0, t, &mut first, &mut refs, out, &mut reals)
 }
 
-// Reads the text of a list of reals into lent numbers.
-pub fn read_reals(which: Reals, t: &[u8], out: &mut [f64]) -> ReadList
-    ensures result_value { told_read_list result ≡ count_of (roomed (fits_in (length out.old)) 0 (list_of (real_by which) t.now)) }
+// Reads the text of a list of reals into lent numbers; places are told from the text's start.
+pub fn read_reals(which: Reals, t: &[u8], out: &mut [f64]) -> Result<usize, Fault>
+    ensures result_value { told_result result ≡ count_of (roomed (fits_in (length out.old)) 0 (list_of (real_by which) t.now)) }
     ensures out_after { map (to_bits binary64) out.new
         ≡ written (roomed (fits_in (length out.old)) 0 (list_of (real_by which) t.now)) (map (to_bits binary64) out.old) }
 {
@@ -380,6 +345,7 @@ pub fn read_reals(which: Reals, t: &[u8], out: &mut [f64]) -> ReadList
     let mut wholes: [i64; 0] = [];
     read_list(
         Kind::Floats(which),
+        0,
         t,
         &mut first,
         &mut refs,
@@ -388,49 +354,31 @@ pub fn read_reals(which: Reals, t: &[u8], out: &mut [f64]) -> ReadList
     )
 }
 
-// What was read of the parameter that starts at `start`, as the reader's answer: places are the file's.
-fn answer_of(r: ReadList, start: usize, to: State) -> NextList
-    requires { start + reached r < 2 ^ 63 }
-    ensures { told_next_list result ≡ reading (moved start (told_read_list r)) to.place to.end }
-{
-    match r {
-        ReadList::Count(n) => NextList::Count(n, to),
-        ReadList::Wrong(o) => NextList::Refused(Fault::WrongType(start + o), to),
-        ReadList::Outside(o) => NextList::Refused(Fault::OutsideClass(start + o), to),
-        ReadList::Short => NextList::Refused(Fault::TooShort(start), to),
-    }
-}
-
 // Reads a list into the lent numbers of its kind.
 fn next_list(
     kind: Kind,
     file: &[u8],
-    at: State,
+    at: &mut State,
     first: &mut [f64],
     refs: &mut [u32],
     wholes: &mut [i64],
     reals: &mut [f64],
-) -> NextList
-    ensures result_value { told_next_list result
-        ≡ how_many (next_by (list_by (item_value kind)) (fits_by kind refs.old wholes.old reals.old) file.now at.place at.end) }
+) -> Result<usize, Fault>
+    ensures result_value { told_read result at.new
+        ≡ how_many (next_by (list_by (item_value kind)) (fits_by kind refs.old wholes.old reals.old) file.now at.old.place at.old.end) }
     ensures reals_after { lent_of kind refs.new wholes.new reals.new
-        ≡ written (next_by (list_by (item_value kind)) (fits_by kind refs.old wholes.old reals.old) file.now at.place at.end).answer
+        ≡ written (next_by (list_by (item_value kind)) (fits_by kind refs.old wholes.old reals.old) file.now at.old.place at.old.end).answer
         (lent_of kind refs.old wholes.old reals.old) }
 {
-    match params::param_span(file, at) {
-        NextParam::Refused(f, to) => NextList::Refused(f, to),
-        NextParam::Span(start, stop, to) => answer_of(
-            read_list(kind, &file[start..stop], first, refs, wholes, reals),
-            start,
-            to,
-        ),
-    }
+    let w = params::param_span(file, at)?;
+    let t = &file[w.start..w.stop];
+    read_list(kind, w.start, t, first, refs, wholes, reals)
 }
 
 // Reads a list of references into lent numbers.
-pub fn next_ref_list(file: &[u8], at: State, out: &mut [u32]) -> NextList
-    ensures result_value { told_next_list result ≡ how_many (list_read reference_of (length out.old) file.now at.place at.end) }
-    ensures out_after { out.new ≡ written (list_read reference_of (length out.old) file.now at.place at.end).answer out.old }
+pub fn next_ref_list(file: &[u8], at: &mut State, out: &mut [u32]) -> Result<usize, Fault>
+    ensures result_value { told_read result at.new ≡ how_many (list_read reference_of (length out.old) file.now at.old.place at.old.end) }
+    ensures out_after { out.new ≡ written (list_read reference_of (length out.old) file.now at.old.place at.old.end).answer out.old }
 {
     let mut first: [f64; 0] = [];
     let mut wholes: [i64; 0] = [];
@@ -447,9 +395,9 @@ pub fn next_ref_list(file: &[u8], at: State, out: &mut [u32]) -> NextList
 }
 
 // Reads a list of integers into lent numbers.
-pub fn next_i64_list(file: &[u8], at: State, out: &mut [i64]) -> NextList
-    ensures result_value { told_next_list result ≡ how_many (list_read whole_of (length out.old) file.now at.place at.end) }
-    ensures out_after { out.new ≡ written (list_read whole_of (length out.old) file.now at.place at.end).answer out.old }
+pub fn next_i64_list(file: &[u8], at: &mut State, out: &mut [i64]) -> Result<usize, Fault>
+    ensures result_value { told_read result at.new ≡ how_many (list_read whole_of (length out.old) file.now at.old.place at.old.end) }
+    ensures out_after { out.new ≡ written (list_read whole_of (length out.old) file.now at.old.place at.old.end).answer out.old }
 {
     let mut first: [f64; 0] = [];
     let mut refs: [u32; 0] = [];
@@ -466,10 +414,15 @@ pub fn next_i64_list(file: &[u8], at: State, out: &mut [i64]) -> NextList
 }
 
 // Reads a list of reals, of the class or any, into lent numbers.
-pub fn next_real_list(which: Reals, file: &[u8], at: State, out: &mut [f64]) -> NextList
-    ensures result_value { told_next_list result ≡ how_many (list_read (real_by which) (length out.old) file.now at.place at.end) }
+pub fn next_real_list(
+    which: Reals,
+    file: &[u8],
+    at: &mut State,
+    out: &mut [f64],
+) -> Result<usize, Fault>
+    ensures result_value { told_read result at.new ≡ how_many (list_read (real_by which) (length out.old) file.now at.old.place at.old.end) }
     ensures out_after { map (to_bits binary64) out.new
-        ≡ written (list_read (real_by which) (length out.old) file.now at.place at.end).answer (map (to_bits binary64) out.old) }
+        ≡ written (list_read (real_by which) (length out.old) file.now at.old.place at.old.end).answer (map (to_bits binary64) out.old) }
 {
     let mut first = [0.0; 16];
     let mut refs: [u32; 0] = [];
@@ -486,10 +439,10 @@ pub fn next_real_list(which: Reals, file: &[u8], at: State, out: &mut [f64]) -> 
 }
 
 // Reads a list of reals of the class into lent numbers.
-pub fn next_f64_list(file: &[u8], at: State, out: &mut [f64]) -> NextList
-    ensures result_value { told_next_list result ≡ how_many (list_read real_of (length out.old) file.now at.place at.end) }
+pub fn next_f64_list(file: &[u8], at: &mut State, out: &mut [f64]) -> Result<usize, Fault>
+    ensures result_value { told_read result at.new ≡ how_many (list_read real_of (length out.old) file.now at.old.place at.old.end) }
     ensures out_after { map (to_bits binary64) out.new
-        ≡ written (list_read real_of (length out.old) file.now at.place at.end).answer (map (to_bits binary64) out.old) }
+        ≡ written (list_read real_of (length out.old) file.now at.old.place at.old.end).answer (map (to_bits binary64) out.old) }
 {
     next_real_list(Reals::Class, file, at, out)
 }

@@ -6,7 +6,7 @@ use Rattle.lists.proofs.item_at.Goals as goal
 
 pub returns : goal.returns
 returns c = let e = c.item_end-bound in
-    let w = c.within-from in
+    let w = c.min-from in
     let b = c.args.b.now in
     let m = c.trim-w in
     subst (λ (j : ℕ). ItemAt b j (record { start = w.result + m.result.start; stop = w.result + m.result.stop; bound = e.result })) w.ensures
