@@ -9,3 +9,4 @@ pub mod Far
 pub mod DigitsInRoom
 pub mod Only
 pub mod Examples
+pub mod Fives

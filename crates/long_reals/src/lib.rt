@@ -21,40 +21,43 @@ ghost use Rattle.long_reals.specs.Digits.{digits_in, FirstAt, ReadAt};
 ghost use Rattle.long_reals.specs.Number.{number_in};
 ghost use Rattle.long_reals.specs.RoomFraction.{Lowered, LowersTo, RaisesTo};
 
-// 5^k, or 5^27 where k is more: the last that 63 binary digits hold. A match is a table of the program's; an array would be laid on the stack at each use.
+// The powers of five up to 5^27, the last that 63 binary digits hold.
+static POWERS_OF_FIVE: [u64; 28] = [
+    1,
+    5,
+    25,
+    125,
+    625,
+    3125,
+    15625,
+    78125,
+    390625,
+    1953125,
+    9765625,
+    48828125,
+    244140625,
+    1220703125,
+    6103515625,
+    30517578125,
+    152587890625,
+    762939453125,
+    3814697265625,
+    19073486328125,
+    95367431640625,
+    476837158203125,
+    2384185791015625,
+    11920928955078125,
+    59604644775390625,
+    298023223876953125,
+    1490116119384765625,
+    7450580596923828125,
+];
+
+// 5^k, or 5^27 where k is more.
 pub fn power_of_five(k: usize) -> u64
     ensures { result ≡ 5 ^ min k 27 }
 {
-    match k {
-        0 => 1,
-        1 => 5,
-        2 => 25,
-        3 => 125,
-        4 => 625,
-        5 => 3125,
-        6 => 15625,
-        7 => 78125,
-        8 => 390625,
-        9 => 1953125,
-        10 => 9765625,
-        11 => 48828125,
-        12 => 244140625,
-        13 => 1220703125,
-        14 => 6103515625,
-        15 => 30517578125,
-        16 => 152587890625,
-        17 => 762939453125,
-        18 => 3814697265625,
-        19 => 19073486328125,
-        20 => 95367431640625,
-        21 => 476837158203125,
-        22 => 2384185791015625,
-        23 => 11920928955078125,
-        24 => 59604644775390625,
-        25 => 298023223876953125,
-        26 => 1490116119384765625,
-        _ => 7450580596923828125,
-    }
+    POWERS_OF_FIVE[k.min(27)]
 }
 
 // 5^k as a digit of 32 binary digits.

@@ -287,36 +287,16 @@ fn tens_from(t: &[u8], at: usize) -> Option<Tens>
     None
 }
 
-// The powers of ten that an f64 holds exactly. An array of them would be laid on the stack at each use; a match is a table of the program's.
+// The powers of ten that an f64 holds exactly.
+static POWERS_OF_TEN: [f64; 23] = [
+    1e0, 1e1, 1e2, 1e3, 1e4, 1e5, 1e6, 1e7, 1e8, 1e9, 1e10, 1e11, 1e12, 1e13, 1e14, 1e15, 1e16, 1e17, 1e18, 1e19, 1e20, 1e21, 1e22,
+];
+
 fn power_of_ten(k: usize) -> f64
     requires { k < 23 }
     ensures { worth_of (to_bits binary64 result) ≡ finite false (10 ^ k * 2 ^ 1074) }
 {
-    match k {
-        0 => 1e0,
-        1 => 1e1,
-        2 => 1e2,
-        3 => 1e3,
-        4 => 1e4,
-        5 => 1e5,
-        6 => 1e6,
-        7 => 1e7,
-        8 => 1e8,
-        9 => 1e9,
-        10 => 1e10,
-        11 => 1e11,
-        12 => 1e12,
-        13 => 1e13,
-        14 => 1e14,
-        15 => 1e15,
-        16 => 1e16,
-        17 => 1e17,
-        18 => 1e18,
-        19 => 1e19,
-        20 => 1e20,
-        21 => 1e21,
-        _ => 1e22,
-    }
+    POWERS_OF_TEN[k]
 }
 
 // The number with its sign, which zero has too.

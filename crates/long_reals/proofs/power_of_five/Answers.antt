@@ -1,8 +1,13 @@
-use Prim.Native.Nat.{ℕ, ◌^◌, min}
-use mathlib.Core.Path.{◌≡◌, sym, ap}
+use Prim.Native.Nat.{ℕ, ◌≤◌, ◌^◌}
+use mathlib.Core.Path.{◌∙◌, ap}
+use native.Mathlib.Omega.{arith}
+use Rattle.long_reals.specs.Fives.{five_at}
+use Rattle.long_reals.proofs.power_of_five.Goals as goal
 
 -- `long_reals::power_of_five` meets its contract: each entry of the table is computed. Assumes nothing.
 
--- the entry that a test has found
-found : (k j : ℕ) → min k 27 ≡ j → 5 ^ j ≡ 5 ^ min k 27
-found k j e = ap (λ (n : ℕ). 5 ^ n) (sym e)
+pub returns : goal.returns
+returns c =
+    let e = c.min.ensures in
+    let l : c.min.result ≤ 27 = omega arith in
+    five_at c.min.result l ∙ ap (λ (n : ℕ). 5 ^ n) e
