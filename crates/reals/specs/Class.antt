@@ -1,13 +1,18 @@
--- The class of reals, where m and the exponent are held up to their caps: the laws of each way out of `in_class`. Assumes nothing.
-use Rattle.std.specs.Prelude.{ℕ, ◌+◌, ◌*◌, ◌-◌, ◌^◌, ◌≤◌, ◌<◌, min, ◌≡◌, refl, Bool, true, false, ◌&&◌, ltb, leb}
-use Rattle.std.proofs.Common.{sym, ◌∙◌, ap, le_of_lt, mul_assoc, mul-one, arith, lt-ltb, le-ltb, le-leb, pow-add}
+-- The class of reals, where m and the exponent are held up to their caps: what `in_class` and `less_places` answer. Assumes nothing.
+use Rattle.std.specs.Prelude.{ℕ, ◌+◌, ◌*◌, ◌-◌, ◌^◌, ◌≤◌, ◌<◌, min, ◌≡◌, refl, Bool, true, false, ◌&&◌, ltb, leb, Float, Result}
+use Rattle.std.proofs.Common.{sym, ◌∙◌, ap, mul_assoc, mul-one, arith, le-ltb, le-leb, pow-add}
 use Rattle.std.proofs.lemmas.Bool.{lt-leb}
+use Rattle.std.proofs.Math.Decide.{dec_lt, dec_le}
 use Rattle.nearest.specs.Near.{near}
 use Rattle.nearest.proofs.Near.{near_same}
 use Rattle.nearest.specs.Nearest.{signed}
 use Rattle.nearest.specs.PowerLaws.{ten_pos}
-use Rattle.reals.specs.Scalar.{parsed, class_of, reaches, near_ten, mantissa_bound, largest_held}
-use Rattle.reals.specs.Answer.{read, refused, farthest}
+use Rattle.nearest.specs.Power.{near_by}
+use Rattle.common.specs.Pick.{pick}
+use Rattle.reals.specs.Scalar.{parsed, class_of, reaches, mantissa_bound, largest_held, InClass, ScaleAt, ReachOf}
+use Rattle.reals.specs.declared.Power.{Power}
+use Rattle.reals.specs.declared.NotRead.{NotRead}
+use Rattle.reals.specs.Answer.{read, refused, told_real, farthest}
 
 -- an exponent that is the fraction's length or more: m times 10 ^ (x - f) has the nearest f64 of m·10^x / 10^f
 pub raised_same : (m f x : ℕ) → f ≤ x → near (m * 10 ^ (x - f)) 1 ≡ near (m * 10 ^ x) (10 ^ f)
@@ -28,65 +33,63 @@ pub no_and : (a : Bool) → a && false ≡ false
 no_and true = refl
 no_and false = refl
 
-module _ (s : Bool) (m f x M X : ℕ) (a : m ≡ min mantissa_bound M) (b : x ≡ min largest_held X) where
-  -- a real whose m has too many digits is 13
-  pub out_long : (d : Bool) → mantissa_bound ≤ m → refused 13 ≡ class_of (parsed s M f d X)
-  out_long d h = let l : mantissa_bound ≤ M = omega arith in rw (le-ltb M mantissa_bound l) refl
+-- m held up to its cap, and the power of ten that the exponent and the fraction make: the answer of the class
+pub class_told : (s d : Bool) (m f x M X n : ℕ) (p : Power) (r : Result Float NotRead) → m ≡ min mantissa_bound M → x ≡ min largest_held X → M < 10 ^ n → n < 2 ^ 63
+    → ScaleAt f d x p → ReachOf f d x p → InClass s m p r → told_real r ≡ class_of (parsed s M f d X)
+class_told s d m f x M X n p r a b h l scale reach told = told ∙ go (dec_lt M mantissa_bound)
+  where
+    go : Dec (M < mantissa_bound) → pick (ltb m mantissa_bound && leb p.size farthest) (read (signed s (near_by p.down m p.size))) (refused 13) ≡ class_of (parsed s M f d X)
+    go (yes k) =
+        let e : m ≡ M = omega arith in
+        ap (λ (v : ℕ). pick (ltb v mantissa_bound && leb p.size farthest) (read (signed s (near_by p.down v p.size))) (refused 13)) e
+        ∙ ap (λ (v : Bool). pick (ltb M mantissa_bound && v) (read (signed s (near_by p.down M p.size))) (refused 13)) (reach X b)
+        ∙ ap (λ (v : ℕ). pick (ltb M mantissa_bound && reaches farthest f d X) (read (signed s v)) (refused 13)) (scale M X n h l b)
+    go (no k) =
+        let u : mantissa_bound ≤ m = omega arith in
+        let v : mantissa_bound ≤ M = omega arith in
+        rw (le-ltb m mantissa_bound u, le-ltb M mantissa_bound v) refl
 
-  -- a real whose exponent is out of reach is 13
-  out_far : (d : Bool) → reaches farthest f d X ≡ false → refused 13 ≡ class_of (parsed s M f d X)
-  out_far d e = rw (e, no_and (ltb M mantissa_bound)) refl
+-- ---- whether an exponent is in the class's reach, by the size of the power of ten
+module _ (f x X : ℕ) (b : x ≡ min largest_held X) where
+  -- a negative exponent: its size and the fraction's length together
+  pub reach_down : leb (min (x + f) largest_held) farthest ≡ reaches farthest f true X
+  reach_down = go (dec_le (X + f) farthest)
+    where
+      go : Dec (X + f ≤ farthest) → leb (min (x + f) largest_held) farthest ≡ leb (X + f) farthest
+      go (yes h) =
+          let k : min (x + f) largest_held ≤ farthest = omega arith in
+          le-leb (min (x + f) largest_held) farthest k ∙ sym (le-leb (X + f) farthest h)
+      go (no h) =
+          let g : farthest < X + f = omega arith in
+          let k : farthest < min (x + f) largest_held = omega arith in
+          lt-leb (min (x + f) largest_held) farthest k ∙ sym (lt-leb (X + f) farthest g)
 
-  -- a real whose m has few enough digits and whose exponent is in reach is the nearest f64
-  inside : (d : Bool) (p : ℕ) → m < mantissa_bound → reaches farthest f d X ≡ true → p ≡ signed s (near_ten M f d X) → read p ≡ class_of (parsed s M f d X)
-  inside d p h e q = let l : M < mantissa_bound = omega arith in rw (lt-ltb M mantissa_bound l, e) (ap read q)
+  -- an exponent above the fraction's length: what it has over
+  pub reach_up : f < 2 ^ 63 → f < x → leb (x - f) farthest ≡ reaches farthest f false X
+  reach_up w g = go (dec_le (x - f) farthest)
+    where
+      go : Dec (x - f ≤ farthest) → leb (x - f) farthest ≡ leb X (f + farthest) && leb f (X + farthest)
+      go (yes h) =
+          let z : X ≤ f + farthest = omega arith in
+          let v : f ≤ X + farthest = omega arith in
+          rw (le-leb (x - f) farthest h, le-leb X (f + farthest) z, le-leb f (X + farthest) v) refl
+      go (no h) =
+          let k : farthest < x - f = omega arith in
+          let z : f + farthest < X = omega arith in
+          rw (lt-leb (x - f) farthest k, lt-leb X (f + farthest) z) refl
 
-  -- below its cap m is held as it is
-  held : m < mantissa_bound → m ≡ M
-  held h = omega arith
+  -- a fraction as long as the exponent says, or longer: what it has over
+  pub reach_mid : f < 2 ^ 63 → x ≤ f → leb (f - x) farthest ≡ reaches farthest f false X
+  reach_mid w g = go (dec_le (f - x) farthest)
+    where
+      z : X ≤ f + farthest
+      z = omega arith
 
-  -- a real with a negative exponent within the bounds of the class: the nearest f64
-  pub in_down : (p : ℕ) → m < mantissa_bound → x + f ≤ farthest → p ≡ signed s (near m (10 ^ (x + f))) → read p ≡ class_of (parsed s M f true X)
-  in_down p h l q =
-      let y : x ≡ X = omega arith in
-      let z : X + f ≤ farthest = omega arith in
-      inside true p h (le-leb (X + f) farthest z) (q ∙ ap (λ (n : ℕ). signed s (near n (10 ^ (x + f)))) (held h) ∙ ap (λ (n : ℕ). signed s (near M (10 ^ (n + f)))) y)
-
-  -- a negative exponent's size and the fraction digits are together above the farthest: 13
-  pub out_down : farthest < x + f → refused 13 ≡ class_of (parsed s M f true X)
-  out_down l = let z : farthest < X + f = omega arith in out_far true (lt-leb (X + f) farthest z)
-
-  -- a real of the class whose exponent is the fraction's length or more: the nearest f64
-  pub in_up : (p : ℕ) → f < 2 ^ 63 → m < mantissa_bound → f ≤ x → x - f ≤ farthest → p ≡ signed s (near (m * 10 ^ (x - f)) 1) → read p ≡ class_of (parsed s M f false X)
-  in_up p w h g l q =
-      let y : x ≡ X = omega arith in
-      let z : X ≤ f + farthest = omega arith in
-      let v : f ≤ X + farthest = omega arith in
-      inside false p h (rw (le-leb X (f + farthest) z, le-leb f (X + farthest) v) refl)
-      (q
-      ∙ ap (signed s) (raised_same m f x g)
-      ∙ ap (λ (n : ℕ). signed s (near (n * 10 ^ x) (10 ^ f))) (held h)
-      ∙ ap (λ (n : ℕ). signed s (near (M * 10 ^ n) (10 ^ f))) y)
-
-  -- the exponent less the fraction is above the farthest: 13
-  pub out_up : f ≤ x → farthest < x - f → refused 13 ≡ class_of (parsed s M f false X)
-  out_up g l = let z : f + farthest < X = omega arith in out_far false (rw (lt-leb X (f + farthest) z) refl)
-
-  -- a real of the class whose fraction is longer than the exponent says: the nearest f64
-  pub in_mid : (p : ℕ) → f < 2 ^ 63 → m < mantissa_bound → x < f → f - x ≤ farthest → p ≡ signed s (near m (10 ^ (f - x))) → read p ≡ class_of (parsed s M f false X)
-  in_mid p w h g l q =
-      let y : x ≡ X = omega arith in
-      let z : X ≤ f + farthest = omega arith in
-      let v : f ≤ X + farthest = omega arith in
-      inside false p h (rw (le-leb X (f + farthest) z, le-leb f (X + farthest) v) refl)
-      (q
-      ∙ ap (signed s) (lowered_same m f x (le_of_lt g))
-      ∙ ap (λ (n : ℕ). signed s (near (n * 10 ^ x) (10 ^ f))) (held h)
-      ∙ ap (λ (n : ℕ). signed s (near (M * 10 ^ n) (10 ^ f))) y)
-
-  -- the fraction less the exponent is above the farthest: 13
-  pub out_mid : f < 2 ^ 63 → x < f → farthest < f - x → refused 13 ≡ class_of (parsed s M f false X)
-  out_mid w g l =
-      let y : x ≡ X = omega arith in
-      let z : X + farthest < f = omega arith in
-      out_far false (rw (lt-leb f (X + farthest) z) (no_and (leb X (f + farthest))))
+      go : Dec (f - x ≤ farthest) → leb (f - x) farthest ≡ leb X (f + farthest) && leb f (X + farthest)
+      go (yes h) =
+          let v : f ≤ X + farthest = omega arith in
+          rw (le-leb (f - x) farthest h, le-leb X (f + farthest) z, le-leb f (X + farthest) v) refl
+      go (no h) =
+          let k : farthest < f - x = omega arith in
+          let v : X + farthest < f = omega arith in
+          rw (lt-leb (f - x) farthest k, le-leb X (f + farthest) z, lt-leb f (X + farthest) v) refl

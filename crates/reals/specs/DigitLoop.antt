@@ -2,7 +2,7 @@
 use Prim.Native.Nat.{ℕ, suc, ◌+◌, ◌*◌, ◌-◌, ◌/◌, ◌%◌, ◌^◌, ◌≤◌, ◌<◌, min}
 use Rattle.std.specs.Prelude.{◌≡◌, refl, Bool, false, ◌||◌, ◌&&◌, eqb, ltb, drop, get_or, Option, Some, None}
 use Rattle.std.proofs.Math.Path.{sym, ap, subst}
-use Rattle.std.proofs.Common.{◌∙◌, le_trans, add_assoc, add-mul, mul_assoc, mul_comm, mul-le-mul_left, mul-le-mul_right, pow-suc, suc-mul, div-mul-le_self, div-add-mod', mod-lt, arith, lt-ltb, le-ltb, eq-eqb, ne_eqb, ltb-false, length-drop}
+use Rattle.std.proofs.Common.{◌∙◌, le_antisymm, le_trans, add_assoc, add-mul, mul_assoc, mul_comm, mul-le-mul_left, mul-le-mul_right, pow-suc, suc-mul, div-mul-le_self, div-add-mod', mod-lt, arith, lt-ltb, le-ltb, eq-eqb, ne_eqb, ltb-false, length-drop}
 use Rattle.std.proofs.Math.Bool.{true}
 use mathlib.Core.List.{List, [], ◌∷◌}
 use Rattle.std.proofs.Math.Nat.{one-le-pow}
@@ -67,10 +67,12 @@ module _ (t : List ℕ) (at from cap : ℕ) where
   number_reading_stops value i l d r = made value i (λ k. sym (digit_stops t i l k (number_from k (drop i t)) d refl)) r
 
   -- the text's end ends the number
-  pub number_reading_ends : (value i : ℕ) → length t ≤ i → NumberReading t at from cap value i → NumberAt t at from cap record { value = value; next = i }
+  pub number_reading_ends : (value i : ℕ) → length t ≤ i → NumberReading t at from cap value i → NumberAt t at from cap record { value = value; next = length t }
   unfolding number_from
   number_reading_ends value i l r =
-      made value i (λ k. walk_ends digit_turn (λ m. number_and_rest m []) k t i l ∙ ap (number_and_rest k) (sym (drop_end t i l))) r
+      let w : i ≤ length t = r.within in
+      subst (λ (k : ℕ). NumberAt t at from cap record { value = value; next = k }) (le_antisymm w l)
+      (made value i (λ k. walk_ends digit_turn (λ m. number_and_rest m []) k t i l ∙ ap (number_and_rest k) (sym (drop_end t i l))) r)
 
 -- ---- some digits at once
 -- a text has these bytes from a place on

@@ -82,10 +82,6 @@ power_worth k h =
     let B = ltb (to_bits binary64 x) infinity in
     plain (to_bits binary64 x) (10 ^ k * 2 ^ 1074) (eqb→eq (pattern_units (to_bits binary64 x)) (10 ^ k * 2 ^ 1074) (and_l A B t)) (ltb→lt (to_bits binary64 x) infinity (and_r A B t))
 
--- entry j of the table of powers is worth 10 ^ k exactly, where a test has found that j is k
-pub power_found : (k j : ℕ) → k ≡ j → j < 23 → worth_of (to_bits binary64 (get_or powers j nan)) ≡ finite false (10 ^ k * 2 ^ 1074)
-power_found k j e h = power_worth j h ∙ ap (λ (n : ℕ). finite false (10 ^ n * 2 ^ 1074)) (sym e)
-
 -- the short path's test: the number and the power of ten are f64s
 pub short_path : (m k : ℕ) → leb m (2 ^ 53) && leb k 22 ≡ true → (m ≤ 2 ^ 53) × (k < 23)
 short_path m k e = let (p, q) = both (leb m (2 ^ 53)) (leb k 22) e in let l = leb-true k 22 q in (leb-true m (2 ^ 53) p, omega arith)

@@ -1,24 +1,28 @@
 -- A real, read at places of the text: what the code's parts promise put together. Assumes nothing.
-use Rattle.std.specs.Prelude.{ℕ, ◌+◌, ◌-◌, ◌≤◌, min, ◌≡◌, refl, Bool, true, false, ◌&&◌, length, take, drop, Float, Some, None, Result}
-use Rattle.std.proofs.Common.{sym, ◌∙◌, arith, eq-eqb, ne_eqb, length-drop, take-append-drop, drop-drop}
+use Rattle.std.specs.Prelude.{ℕ, ◌+◌, ◌-◌, ◌^◌, ◌≤◌, ◌<◌, min, ◌≡◌, refl, Bool, true, false, ◌&&◌, length, take, drop, Float, Some, None, Result}
+use Rattle.std.proofs.Common.{sym, ◌∙◌, subst, arith, eq-eqb, ne_eqb, length-take, length-drop, take-append-drop, drop-drop}
 use Rattle.std.proofs.Math.Path.{ap}
 use mathlib.Core.List.{List, ◌++◌}
 use Rattle.std.proofs.Math.Decide.{ℕ_discrete}
 use Rattle.std.proofs.Math.Dec.{eqb}
 use Rattle.common.specs.Pick.{pick}
 use Rattle.record.specs.Text.{number_from}
-use Rattle.reals.specs.Scalar.{unsigned, is_minus, Mantissa, fraction_of, exponent_of, parsed, unparsed, parsed_real, parse_of, class_of, real_of, any_of, any_real_of, NumberAt, DecimalAt, TensAt, ClassOf, AnyAt, mantissa_bound}
+use Rattle.reals.specs.Scalar.{unsigned, is_minus, Mantissa, fraction_of, exponent_of, parsed, unparsed, parsed_real, parse_of, class_of, real_of, any_of, any_real_of, NumberAt, DecimalAt, TensAt, InClass, ScaleAt, ReachOf, mantissa_bound}
 use Rattle.reals.specs.Which.{real_by}
 use Rattle.reals.specs.Answer.{read, refused, told_real}
 use Rattle.long_reals.specs.Number.{number_in}
-use Rattle.long_reals.specs.DigitsRight.{number_append, number_in_only}
+use Rattle.long_reals.specs.Digits.{digits_in}
+use Rattle.long_reals.specs.DigitsRight.{number_append, number_in_only, number_lt, digits_le}
+use Rattle.nearest.specs.Nearest.{signed}
+use Rattle.nearest.specs.Power.{near_by}
+use Rattle.reals.specs.Class.{class_told}
 use Rattle.reals.specs.AnyRealLaws.{number_rest, fraction_rest}
 use Rattle.reals.specs.FormRight.{unparsed_by}
 use Rattle.reals.specs.declared.Reals.{Reals}
 use Rattle.reals.specs.declared.NotRead.{NotRead}
 use Rattle.reals.specs.declared.Number.{Number}
 use Rattle.reals.specs.declared.Decimal.{Decimal}
-use Rattle.reals.specs.declared.Tens.{Tens}
+use Rattle.reals.specs.declared.Power.{Power}
 
 -- two rests of a text have the same length just where they begin at one place
 same_place : (t : List ℕ) (i j : ℕ) → i ≤ length t → j ≤ length t → eqb (length (drop i t)) (length (drop j t)) ≡ eqb i j
@@ -78,19 +82,12 @@ module _ (t : List ℕ) (a : ℕ) (here : drop a t ≡ unsigned t) (within : a �
   bad_tens which e f = sym (unparsed_by which t (parsed_at ∙ rw (e, f) refl))
 
   -- else the parse has the sign, m, the number of fraction digits and the exponent that the code holds
-  good_tens : (s : Bool) (g : Tens) → eqb w.next a && eqb d.places 0 ≡ false → s ≡ is_minus t → (f : TensAt (drop d.next t) (Some g)) → parsed s (fraction_of (number_from 0 (unsigned t)).value (number_from 0 (unsigned t)).rest).value d.places g.down f.0 ≡ parse_of t
+  good_tens : (s : Bool) (g : Power) → eqb w.next a && eqb d.places 0 ≡ false → s ≡ is_minus t → (f : TensAt (drop d.next t) (Some g)) → parsed s (fraction_of (number_from 0 (unsigned t)).value (number_from 0 (unsigned t)).rest).value d.places g.down f.0 ≡ parse_of t
   good_tens s g e m f =
       let M = fraction_of (number_from 0 (unsigned t)).value (number_from 0 (unsigned t)).rest in
       ap (λ (b : Bool). parsed b M.value d.places g.down f.0) m
       ∙ ap (λ (k : ℕ). parsed (is_minus t) M.value k g.down f.0) (sym places)
       ∙ sym (parsed_at ∙ rw (e, f.1) refl)
-
-  -- a text whose parts are well formed answers as the class does of what the code holds
-  pub good_class : (s : Bool) (g : Tens) (r : Result Float NotRead) → eqb w.next a && eqb d.places 0 ≡ false → s ≡ is_minus t → TensAt (drop d.next t) (Some g) → ClassOf s d.value d.places g.down g.size r → told_real r ≡ real_of t
-  unfolding real_of
-  good_class s g r e m f c =
-      let M = fraction_of (number_from 0 (unsigned t)).value (number_from 0 (unsigned t)).rest in
-      c M.value f.0 held f.2 ∙ ap class_of (good_tens s g e m f)
 
   -- the digits of the mantissa make m
   pub digits_held : number_in 0 (take (d.next - a) (drop a t)) ≡ (fraction_of (number_from 0 (unsigned t)).value (number_from 0 (unsigned t)).rest).value
@@ -110,11 +107,27 @@ module _ (t : List ℕ) (a : ℕ) (here : drop a t ≡ unsigned t) (within : a �
   pub m_held : d.value ≡ min mantissa_bound (number_in 0 (take (d.next - a) (drop a t)))
   m_held = held ∙ ap (min mantissa_bound) (sym digits_held)
 
-  -- a text whose parts are well formed answers as any real does of what the code holds
-  pub good_any : (s : Bool) (g : Tens) (b : ℕ) → eqb w.next a && eqb d.places 0 ≡ false → s ≡ is_minus t → TensAt (drop d.next t) (Some g) → AnyAt s (number_in 0 (take (d.next - a) (drop a t))) d.places g.down g.size b → read b ≡ any_real_of t
-  unfolding any_real_of
-  good_any s g b e m f c =
+  -- the digits of the mantissa are fewer than 2 ^ 63
+  few : length t < 2 ^ 63 → digits_in (take (d.next - a) (drop a t)) < 2 ^ 63
+  few l = let n = digits_le (take (d.next - a) (drop a t)) in let x = length-take (d.next - a) (drop a t) in let y = length-drop a t in omega arith
+
+  -- a text whose parts are well formed answers as the class does of what the code holds
+  pub good_class : (s : Bool) (g p : Power) (r : Result Float NotRead) → length t < 2 ^ 63 → eqb w.next a && eqb d.places 0 ≡ false → s ≡ is_minus t → TensAt (drop d.next t) (Some g)
+      → ScaleAt d.places g.down g.size p → ReachOf d.places g.down g.size p → InClass s d.value p r → told_real r ≡ real_of t
+  unfolding real_of
+  good_class s g p r l e m f scale reach q =
       let M = fraction_of (number_from 0 (unsigned t)).value (number_from 0 (unsigned t)).rest in
-      ap read (c f.0 f.2)
+      let xs = take (d.next - a) (drop a t) in
+      class_told s g.down d.value d.places g.size M.value f.0 (digits_in xs) p r held f.2 (subst (λ (n : ℕ). n < 10 ^ digits_in xs) digits_held (number_lt xs)) (few l) scale reach q
+      ∙ ap class_of (good_tens s g e m f)
+
+  -- a text whose parts are well formed answers as any real does of what the code holds
+  pub good_any : (s : Bool) (g p : Power) (b : ℕ) → length t < 2 ^ 63 → eqb w.next a && eqb d.places 0 ≡ false → s ≡ is_minus t → TensAt (drop d.next t) (Some g)
+      → ScaleAt d.places g.down g.size p → b ≡ signed s (near_by p.down (number_in 0 (take (d.next - a) (drop a t))) p.size) → read b ≡ any_real_of t
+  unfolding any_real_of
+  good_any s g p b l e m f scale q =
+      let M = fraction_of (number_from 0 (unsigned t)).value (number_from 0 (unsigned t)).rest in
+      let xs = take (d.next - a) (drop a t) in
+      ap read (q ∙ ap (signed s) (scale (number_in 0 xs) f.0 (digits_in xs) (number_lt xs) (few l) f.2))
       ∙ ap (λ (n : ℕ). any_of (parsed s n d.places g.down f.0)) digits_held
       ∙ ap any_of (good_tens s g e m f)

@@ -8,10 +8,9 @@ use Rattle.nearest.specs.Nearest.{signed}
 use Rattle.nearest.specs.Power.{near_by}
 use Rattle.reals.specs.Answer.{Answer, read, refused, told_real, longest, farthest}
 use Rattle.reals.specs.declared.NotRead.{NotRead}
-use Rattle.reals.specs.declared.Scale.{Scale}
 use Rattle.reals.specs.declared.Number.{Number}
 use Rattle.reals.specs.declared.Decimal.{Decimal}
-use Rattle.reals.specs.declared.Tens.{Tens}
+use Rattle.reals.specs.declared.Power.{Power}
 
 -- "Optional sign": what follows it in a text
 abbrev pub unsigned : List ℕ → List ℕ
@@ -166,18 +165,18 @@ abbrev pub largest_held : ℕ
 largest_held = 2 ^ 64 - 1
 
 -- the exponent of a text, its size held up to the largest number, or malformed
-abbrev pub TensAt : List ℕ → Option Tens → Type 0
+abbrev pub TensAt : List ℕ → Option Power → Type 0
 TensAt xs (Some e) = (n : ℕ) × (exponent_of xs ≡ power e.down n) × (e.size ≡ min largest_held n)
 TensAt xs None = exponent_of xs ≡ malformed
 
--- r is the answer of the class, where m is held up to its cap and the exponent up to the largest number
-abbrev pub ClassOf : Bool → ℕ → ℕ → Bool → ℕ → Result Float NotRead → Type 0
-ClassOf s m f d x r = (M X : ℕ) → m ≡ min mantissa_bound M → x ≡ min largest_held X → told_real r ≡ class_of (parsed s M f d X)
+-- r is the answer of the class for m, held up to its cap, and a power of ten
+abbrev pub InClass : Bool → ℕ → Power → Result Float NotRead → Type 0
+InClass s m p r = told_real r ≡ pick (ltb m mantissa_bound && leb p.size farthest) (read (signed s (near_by p.down m p.size))) (refused 13)
 
 -- the power of ten that n digits are multiplied by, the exponent held up to the largest number; no text has 2 ^ 63 digits
-abbrev pub ScaleAt : ℕ → Bool → ℕ → Scale → Type 0
+abbrev pub ScaleAt : ℕ → Bool → ℕ → Power → Type 0
 ScaleAt f d x r = (M X n : ℕ) → M < 10 ^ n → n < 2 ^ 63 → x ≡ min largest_held X → near_by r.down M r.size ≡ near_ten M f d X
 
--- b is the answer for any real whose digits make M, where the exponent is held up to the largest number
-abbrev pub AnyAt : Bool → ℕ → ℕ → Bool → ℕ → ℕ → Type 0
-AnyAt s M f d x b = (X : ℕ) → x ≡ min largest_held X → b ≡ signed s (near_ten M f d X)
+-- the size of that power of ten tells whether the exponent is in the class's reach
+abbrev pub ReachOf : ℕ → Bool → ℕ → Power → Type 0
+ReachOf f d x r = (X : ℕ) → x ≡ min largest_held X → leb r.size farthest ≡ reaches farthest f d X

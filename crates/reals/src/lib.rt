@@ -15,7 +15,7 @@ ghost use Rattle.nearest.specs.Near.{near};
 ghost use Rattle.nearest.specs.Power.{near_by};
 ghost use Rattle.nearest.specs.Nearest.{signed};
 ghost use Rattle.nearest.specs.Product.{worth_of, finite};
-ghost use Rattle.reals.specs.Scalar.{real_of, ScaleAt, AnyAt, whole_of, integer_in_range, reference_of, unsigned, is_minus, NumberAt, PlainAt, DecimalAt, TensAt, ClassOf, mantissa_bound};
+ghost use Rattle.reals.specs.Scalar.{real_of, ScaleAt, ReachOf, whole_of, integer_in_range, reference_of, unsigned, is_minus, NumberAt, PlainAt, DecimalAt, TensAt, InClass, mantissa_bound};
 ghost use Rattle.reals.specs.Which.{real_by};
 ghost use Rattle.reals.specs.Answer.{told_real, told_whole, told_reference, farthest, read, refused};
 ghost use Rattle.long_reals.specs.Number.{number_in};
@@ -49,10 +49,7 @@ const LARGEST: u64 = 0xffff_ffff_ffff_ffff;
 fn minus_at(t: &[u8], at: usize) -> bool
     ensures { result ≡ is_minus (drop at t.now) }
 {
-    if at < t.len() {
-        return t[at] == b'-';
-    }
-    false
+    at < t.len() && t[at] == b'-'
 }
 
 // The place after an optional sign.
@@ -106,16 +103,17 @@ fn digits_from(t: &[u8], at: usize, from: u64, cap: u64) -> Number
     ensures { NumberAt t.now at from cap result }
 {
     let mut n = from;
-    let mut i = at;
-    while i < t.len() {
+    for i in at..t.len() {
         let c = t[i];
         if !record::is_digit(c) {
             return Number { value: n, next: i };
         }
         n = with_digit(n, c, cap);
-        i += 1;
     }
-    Number { value: n, next: i }
+    Number {
+        value: n,
+        next: t.len(),
+    }
 }
 
 // Whether four bytes are digits.
@@ -257,20 +255,21 @@ fn plain_from(t: &[u8], at: usize, cap: u64) -> Option<u64>
     None
 }
 
-// An exponent: whether it is negative, and its size.
+// A power of ten: its exponent's size, and whether that is negative.
+// Kept: `down` is the sign of `size`, which counts either way; `near_by` of nearest/specs/Power takes the two so.
 #[derive(Clone, Copy)]
-struct Tens {
+struct Power {
     down: bool,
-    size: u64,
+    size: usize,
 }
 
 // The exponent that the rest of the text is, where it is well formed; none is 0.
-fn tens_from(t: &[u8], at: usize) -> Option<Tens>
+fn tens_from(t: &[u8], at: usize) -> Option<Power>
     requires { at ≤ length t.now }
     ensures { TensAt (drop at t.now) result }
 {
     if at == t.len() {
-        return Some(Tens {
+        return Some(Power {
             down: false,
             size: 0,
         });
@@ -279,9 +278,9 @@ fn tens_from(t: &[u8], at: usize) -> Option<Tens>
     if (c == b'E') | (c == b'e') {
         let u = past_sign(t, at + 1);
         let size = plain_from(t, u, LARGEST)?;
-        return Some(Tens {
+        return Some(Power {
             down: minus_at(t, at + 1),
-            size,
+            size: size as usize,
         });
     }
     None
@@ -289,7 +288,8 @@ fn tens_from(t: &[u8], at: usize) -> Option<Tens>
 
 // The powers of ten that an f64 holds exactly.
 static POWERS_OF_TEN: [f64; 23] = [
-    1e0, 1e1, 1e2, 1e3, 1e4, 1e5, 1e6, 1e7, 1e8, 1e9, 1e10, 1e11, 1e12, 1e13, 1e14, 1e15, 1e16, 1e17, 1e18, 1e19, 1e20, 1e21, 1e22,
+    1e0, 1e1, 1e2, 1e3, 1e4, 1e5, 1e6, 1e7, 1e8, 1e9, 1e10, 1e11, 1e12, 1e13, 1e14, 1e15, 1e16,
+    1e17, 1e18, 1e19, 1e20, 1e21, 1e22,
 ];
 
 fn power_of_ten(k: usize) -> f64
@@ -316,116 +316,75 @@ const WHOLE: u64 = 0x20_0000_0000_0000;
 
 const POWER: usize = 22;
 
-// The f64 nearest to m * 10^k, or to m / 10^k where `down`, by the wide path. One function for the two, so that the compiler leaves it out of
-// the way of the short path.
-fn by_wide(down: bool, neg: bool, m: u64, k: usize) -> f64
-    ensures { to_bits binary64 result ≡ signed neg (near_by down m k) }
+// The f64 nearest to m * 10^k, or to m / 10^k, by the wide path: a function of its own, so that the compiler leaves it out of the way of the
+// short path.
+fn by_wide(neg: bool, m: u64, p: Power) -> f64
+    ensures { to_bits binary64 result ≡ signed neg (near_by p.down m p.size) }
 {
-    if down {
-        return wide_reals::lowered(neg, m, k);
+    if p.down {
+        return wide_reals::lowered(neg, m, p.size);
     }
-    wide_reals::raised(neg, m, k)
+    wide_reals::raised(neg, m, p.size)
 }
 
-// The f64 nearest to m * 10^k, by the short path where both are f64s, as in most files: their product is rounded once. The wide path would
-// answer the same (specs/Agree.antt).
-fn raised(neg: bool, m: u64, k: usize) -> f64
-    requires { k ≤ farthest }
-    ensures { to_bits binary64 result ≡ signed neg (near (m * 10 ^ k) 1) }
+// The f64 nearest to m by a power of ten, by the short path where both are f64s, as in most files: their product or quotient is rounded once. The
+// wide path would answer the same (specs/Agree.antt).
+fn scaled(neg: bool, m: u64, p: Power) -> f64
+    ensures { to_bits binary64 result ≡ signed neg (near_by p.down m p.size) }
 {
-    if (m <= WHOLE) & (k <= POWER) {
-        return nearest::times(exact(neg, m), power_of_ten(k));
-    }
-    by_wide(false, neg, m, k)
-}
-
-// The f64 nearest to m / 10^k: their quotient, or the wide path.
-fn lowered(neg: bool, m: u64, k: usize) -> f64
-    requires { k ≤ farthest }
-    ensures { to_bits binary64 result ≡ signed neg (near m (10 ^ k)) }
-{
-    if (m <= WHOLE) & (k <= POWER) {
-        return nearest::over(exact(neg, m), power_of_ten(k));
-    }
-    by_wide(true, neg, m, k)
-}
-
-// A power of ten: its size, and whether it is negative.
-#[derive(Clone, Copy)]
-struct Scale {
-    down: bool,
-    size: usize,
-}
-
-// The power of ten that a real's digits are multiplied by, of an exponent x, negative if `down`, and f fraction digits. Where it would be larger than
-// a number is here, the largest stands for it: that far, all answers are zeros and infinities.
-fn scale_of(f: usize, down: bool, x: u64) -> Scale
-    requires { f < 2 ^ 63 }
-    ensures { ScaleAt f down x result }
-{
-    let k = x as usize;
-    if down {
-        if k <= 0xffff_ffff_ffff_ffff - f {
-            return Scale {
-                down: true,
-                size: k + f,
-            };
+    if (m <= WHOLE) & (p.size <= POWER) {
+        let x = exact(neg, m);
+        let y = power_of_ten(p.size);
+        if p.down {
+            return nearest::over(x, y);
         }
-        return Scale {
+        return nearest::times(x, y);
+    }
+    by_wide(neg, m, p)
+}
+
+// The power of ten that a real's digits are multiplied by, of an exponent e and f fraction digits. Where it would be larger than a number is here, the
+// largest stands for it: that far, all answers are zeros and infinities.
+fn less_places(e: Power, f: usize) -> Power
+    requires { f < 2 ^ 63 }
+    ensures near { ScaleAt f e.down e.size result }
+    ensures reach { ReachOf f e.down e.size result }
+{
+    if e.down {
+        return Power {
             down: true,
-            size: 0xffff_ffff_ffff_ffff,
+            size: e.size.saturating_add(f),
         };
     }
-    if f < k {
-        return Scale {
+    if f < e.size {
+        return Power {
             down: false,
-            size: k - f,
+            size: e.size - f,
         };
     }
-    Scale {
+    Power {
         down: true,
-        size: f - k,
+        size: f - e.size,
     }
 }
 
-// The f64 nearest to a real with m, the digits t, f fraction digits and an exponent x, negative if `down`. The digits themselves are asked only
-// where m does not hold them all.
-fn any_real(neg: bool, t: &[u8], m: u64, f: usize, down: bool, x: u64) -> f64
-    requires { (m ≡ min mantissa_bound (number_in 0 t.now)) × (f < 2 ^ 63) }
-    ensures { AnyAt neg (number_in 0 t.now) f down x (to_bits binary64 result) }
+// The f64 nearest to a real with m, the digits t and a power of ten. The digits themselves are asked only where m does not hold them all.
+fn any_real(neg: bool, t: &[u8], m: u64, p: Power) -> f64
+    requires { m ≡ min mantissa_bound (number_in 0 t.now) }
+    ensures { to_bits binary64 result ≡ signed neg (near_by p.down (number_in 0 t.now) p.size) }
 {
-    let p = scale_of(f, down, x);
     if m < MOST {
-        return by_wide(p.down, neg, m, p.size);
+        return by_wide(neg, m, p);
     }
     long_reals::decimal(neg, t, p.down, p.size)
 }
 
-// The answer for a real with m, f fraction digits and an exponent x, negative if `down`.
-fn in_class(neg: bool, m: u64, f: usize, down: bool, x: u64) -> Result<f64, NotRead>
-    requires { (m ≤ mantissa_bound) × (f < 2 ^ 63) }
-    ensures { ClassOf neg m f down x result }
+// The answer for a real of the class with m and a power of ten.
+fn in_class(neg: bool, m: u64, p: Power) -> Result<f64, NotRead>
+    ensures { InClass neg m p result }
 {
-    if MOST <= m {
-        return Err(NotRead::Outside);
-    }
-    let k = x as usize;
-    if down {
-        if k <= FARTHEST {
-            if f <= FARTHEST - k {
-                return Ok(lowered(neg, m, k + f));
-            }
-        }
-        return Err(NotRead::Outside);
-    }
-    if f <= k {
-        if k - f <= FARTHEST {
-            return Ok(raised(neg, m, k - f));
-        }
-        return Err(NotRead::Outside);
-    }
-    if f - k <= FARTHEST {
-        return Ok(lowered(neg, m, f - k));
+    if (m < MOST) & (p.size <= FARTHEST) {
+        return Ok(scaled(neg, m, p));
     }
     Err(NotRead::Outside)
 }
@@ -446,9 +405,10 @@ pub fn read_real(which: Reals, t: &[u8]) -> Result<f64, NotRead>
     let Some(e) = tens_from(t, end) else {
         return Err(NotRead::NotReal);
     };
+    let p = less_places(e, d.places);
     match which {
-        Reals::Class => in_class(neg, d.value, d.places, e.down, e.size),
-        Reals::Any => Ok(any_real(neg, &t[a..end], d.value, d.places, e.down, e.size)),
+        Reals::Class => in_class(neg, d.value, p),
+        Reals::Any => Ok(any_real(neg, &t[a..end], d.value, p)),
     }
 }
 

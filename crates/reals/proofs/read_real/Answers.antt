@@ -1,3 +1,6 @@
+use Prim.Native.Nat.{◌<◌, ◌^◌}
+use lib.ListN.{length}
+use borrow.Author.Rules.{rules}
 use mathlib.Core.Path.{refl}
 use native.Mathlib.Omega.{arith}
 use lib.Ieee.{binary64, to_bits}
@@ -17,23 +20,18 @@ pub returns-in_default : goal.returns-in_default
 returns-in_default c =
     bad_tens c.args.t.now c.past_sign-a.result c.past_sign-a.ensures.0 c.past_sign-a.ensures.1 c.digits_from-w.result c.digits_from-w.ensures c.fraction_from-d.result c.fraction_from-d.ensures c.args.which c.if-point-a.false (rw c.in_default.is at c.tens_from.ensures)
 
-pub in_class-requires : goal.in_class-requires
-in_class-requires c =
-    let v = c.fraction_from-d.ensures.value _ (c.digits_from-w.ensures.value 0 refl) in
-    (omega (arith, v), omega arith)
-
 pub any_real-requires : goal.any_real-requires
-any_real-requires c = (
-  m_held c.args.t.now c.past_sign-a.result c.past_sign-a.ensures.0 c.past_sign-a.ensures.1 c.digits_from-w.result c.digits_from-w.ensures c.fraction_from-d.result c.fraction_from-d.ensures,
-  omega arith,
-)
+any_real-requires c =
+    m_held c.args.t.now c.past_sign-a.result c.past_sign-a.ensures.0 c.past_sign-a.ensures.1 c.digits_from-w.result c.digits_from-w.ensures c.fraction_from-d.result c.fraction_from-d.ensures
 
 pub returns-in-Class : goal.returns-in-Class
 returns-in-Class c =
+    let l : length c.args.t.now < 2 ^ 63 = search rules in
     rw c.in-Class.is
-    (good_class c.args.t.now c.past_sign-a.result c.past_sign-a.ensures.0 c.past_sign-a.ensures.1 c.digits_from-w.result c.digits_from-w.ensures c.fraction_from-d.result c.fraction_from-d.ensures c.minus_at-neg.result _ c.in_class.result c.if-point-a.false c.minus_at-neg.ensures (rw c.in-Some.is at c.tens_from.ensures) c.in_class.ensures)
+    (good_class c.args.t.now c.past_sign-a.result c.past_sign-a.ensures.0 c.past_sign-a.ensures.1 c.digits_from-w.result c.digits_from-w.ensures c.fraction_from-d.result c.fraction_from-d.ensures c.minus_at-neg.result _ c.less_places-p.result c.in_class.result l c.if-point-a.false c.minus_at-neg.ensures (rw c.in-Some.is at c.tens_from.ensures) c.less_places-p.ensures.near c.less_places-p.ensures.reach c.in_class.ensures)
 
 pub returns-in-Any : goal.returns-in-Any
 returns-in-Any c =
+    let l : length c.args.t.now < 2 ^ 63 = search rules in
     rw c.in-Any.is
-    (good_any c.args.t.now c.past_sign-a.result c.past_sign-a.ensures.0 c.past_sign-a.ensures.1 c.digits_from-w.result c.digits_from-w.ensures c.fraction_from-d.result c.fraction_from-d.ensures c.minus_at-neg.result _ (to_bits binary64 c.any_real.result) c.if-point-a.false c.minus_at-neg.ensures (rw c.in-Some.is at c.tens_from.ensures) c.any_real.ensures)
+    (good_any c.args.t.now c.past_sign-a.result c.past_sign-a.ensures.0 c.past_sign-a.ensures.1 c.digits_from-w.result c.digits_from-w.ensures c.fraction_from-d.result c.fraction_from-d.ensures c.minus_at-neg.result _ c.less_places-p.result (to_bits binary64 c.any_real.result) l c.if-point-a.false c.minus_at-neg.ensures (rw c.in-Some.is at c.tens_from.ensures) c.less_places-p.ensures.near c.any_real.ensures)
