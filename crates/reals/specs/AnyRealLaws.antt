@@ -2,7 +2,7 @@
 -- since that far all answers are zeros and infinities; and the digits that the long path reads are those of the mantissa. Assumes nothing.
 use Rattle.std.specs.Prelude.{ℕ, ◌+◌, ◌*◌, ◌-◌, ◌^◌, ◌≤◌, ◌<◌, min, ◌≡◌, refl, ◌⊎◌, Bool, true, false, List, [], ◌∷◌, eqb}
 use Rattle.std.proofs.Common.{sym, ◌∙◌, ap, inl, inr, zero-mul, eq-zero-or-pos, arith, eqb-true}
-use Rattle.std.proofs.Math.Decide.{dec_lt, dec_le}
+use Rattle.std.proofs.Math.Decide.{dec_lt}
 use Rattle.common.specs.Pick.{pick}
 use Rattle.common.specs.Walk.{walk, turned, on, stop}
 use Rattle.record.specs.Text.{number_and_rest, digit_turn, number_from}
@@ -51,14 +51,6 @@ module _ (M X n f x : ℕ) (h : M < 10 ^ n) (l : n < 2 ^ 63) (g : f < 2 ^ 63) (e
       let a : n + 324 ≤ largest_held = omega arith in
       let b : n + 324 ≤ X + f = omega arith in
       far_zero M n largest_held h a ∙ sym (far_zero M n (X + f) h b)
-
-  -- a negative exponent together with the fraction's length, or the largest number where that is larger
-  pub down_saturated : (r : ℕ) → r ≡ min (x + f) largest_held → near_by true M r ≡ near_ten M f true X
-  down_saturated r q = go (dec_le (x + f) largest_held)
-    where
-      go : Dec (x + f ≤ largest_held) → near_by true M r ≡ near_ten M f true X
-      go (yes k) = let z : r ≡ x + f = omega arith in ap (λ (i : ℕ). near_by true M i) z ∙ down_held k
-      go (no k) = let z : r ≡ largest_held = omega arith in ap (λ (i : ℕ). near_by true M i) z ∙ down_far (omega arith)
 
   -- an exponent of the fraction's length or more: the power of ten is what it has over
   pub up_held : f ≤ x → near_by false M (x - f) ≡ near_ten M f false X
