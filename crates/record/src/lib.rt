@@ -46,8 +46,7 @@ fn past_space(b: &[u8], from: usize) -> usize
     ensures lower_bound { from ≤ result }
     ensures upper_bound { result ≤ length b.now }
 {
-    let mut i = from;
-    while i < b.len() {
+    for i in from..b.len() {
         let c = b[i];
         if b' ' < c {
             return i;
@@ -55,9 +54,8 @@ fn past_space(b: &[u8], from: usize) -> usize
         if !lex::is_space(c) {
             return i;
         }
-        i += 1;
     }
-    i
+    b.len()
 }
 
 // Whether a byte is a digit.
@@ -72,19 +70,17 @@ pub fn digits_at(b: &[u8], from: usize) -> Option<(u32, usize)>
     ensures { Numbered b.now from result }
 {
     let mut n: u64 = 0;
-    let mut i = from;
-    while i < b.len() {
+    for i in from..b.len() {
         let c = b[i];
         if !is_digit(c) {
             return Some((n as u32, i));
         }
-        n = n * 10 + ((c - 48) as u64);
+        n = n * 10 + u64::from(c - b'0');
         if 4294967295 < n {
             return None;
         }
-        i += 1;
     }
-    Some((n as u32, i))
+    Some((n as u32, from.max(b.len())))
 }
 
 // The first byte from `from` on that may be white or a `(`, or the length: the bytes above `(`, as those of a name, are neither.
@@ -93,14 +89,12 @@ fn name_run(b: &[u8], from: usize) -> usize
     ensures b_value { keyword (drop result b.now) ≡ keyword (drop from b.now) }
     ensures lower_bound { (from ≤ result) × (result ≤ length b.now) }
 {
-    let mut i = from;
-    while i < b.len() {
+    for i in from..b.len() {
         if b[i] <= b'(' {
             return i;
         }
-        i += 1;
     }
-    i
+    b.len()
 }
 
 // The end of the keyword that begins at `from`, and the place of the `(` after it; none where there is no `(`.
@@ -109,15 +103,13 @@ fn keyword_at(b: &[u8], from: usize) -> Option<(usize, usize)>
     ensures { KeyedAt b.now from result }
 {
     let mut end = name_run(b, from);
-    let mut i = end;
-    while i < b.len() {
+    for i in end..b.len() {
         let c = b[i];
         if c == b'(' {
             return Some((end, i));
         }
-        i += 1;
         if !lex::is_space(c) {
-            end = i;
+            end = i + 1;
         }
     }
     None
@@ -128,15 +120,12 @@ pub fn trail_at(b: &[u8], from: usize) -> usize
     ensures b_value { drop result b.now ≡ trail (drop from b.now) }
     ensures lower_bound { (min from (length b.now) ≤ result) × (result ≤ length b.now) }
 {
-    let mut end = b.len();
-    while from < end {
-        let last = end - 1;
+    for last in (from..b.len()).rev() {
         if !lex::is_space(b[last]) {
-            return end;
+            return last + 1;
         }
-        end = last;
     }
-    end
+    from.min(b.len())
 }
 
 // A small letter as its capital.

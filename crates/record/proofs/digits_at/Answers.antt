@@ -18,14 +18,9 @@ pub returns-then-not-is_digit : goal.returns-then-not-is_digit
 returns-then-not-is_digit c = let b = c.args.b.now in
     (sym (digit_stops b c.loop-i.i (omega arith) c.loop-i.n _ (sym c.is_digit.ensures ∙ c.if-not-is_digit.true) c.loop-i.invariant.3), omega arith, omega arith, omega arith)
 
-pub overflow_sub-n : goal.overflow_sub-n
-overflow_sub-n c = let b = c.args.b.now in
+pub overflow_sub-c : goal.overflow_sub-c
+overflow_sub-c c = let b = c.args.b.now in
     (bounds 48 (get_or b c.loop-i.i 0) 57 (sym c.is_digit.ensures ∙ c.if-not-is_digit.false)).0
-
-pub overflow_cast-n : goal.overflow_cast-n
-overflow_cast-n c = let b = c.args.b.now in
-    let k = bounds 48 (get_or b c.loop-i.i 0) 57 (sym c.is_digit.ensures ∙ c.if-not-is_digit.false) in
-    omega arith
 
 pub overflow_add-n : goal.overflow_add-n
 overflow_add-n c = let b = c.args.b.now in
@@ -35,6 +30,7 @@ overflow_add-n c = let b = c.args.b.now in
 pub returns-then-n-gt4294967295 : goal.returns-then-n-gt4294967295
 unfolding number_from
 returns-then-n-gt4294967295 c = let b = c.args.b.now in
+    let f = c.from.ensures in
     let n = c.loop-i.n * 10 + (get_or b c.loop-i.i 0 - 48) in
     let e : number_from n (drop (c.loop-i.i + 1) b) ≡ number_from 0 (drop c.args.from b) =
     digit_goes b c.loop-i.i (omega arith) c.loop-i.n _ (sym c.is_digit.ensures ∙ c.if-not-is_digit.false) c.loop-i.invariant.3 in
@@ -42,9 +38,10 @@ returns-then-n-gt4294967295 c = let b = c.args.b.now in
 
 pub loop-i-preserved : goal.loop-i-preserved
 loop-i-preserved c = let b = c.args.b.now in
-    (omega arith, omega arith, omega arith, digit_goes b c.loop-i.i (omega arith) c.loop-i.n _ (sym c.is_digit.ensures ∙ c.if-not-is_digit.false) c.loop-i.invariant.3)
+    (omega arith, omega arith, omega arith, rw c.from.ensures (digit_goes b c.loop-i.i (omega arith) c.loop-i.n _ (sym c.is_digit.ensures ∙ c.if-not-is_digit.false) c.loop-i.invariant.3))
 
 pub returns : goal.returns
 returns c = let b = c.args.b.now in
-    let e : drop c.loop-i.i b ≡ [] = drop_end b c.loop-i.i (omega arith) in
+    let m = c.max.ensures in
+    let e : drop c.max.result b ≡ [] = drop_end b c.max.result (omega arith) in
     (sym c.loop-i.invariant.3 ∙ walk_ends digit_turn (λ m. number_and_rest m []) c.loop-i.n b c.loop-i.i (omega arith) ∙ ap (number_and_rest c.loop-i.n) (sym e), omega arith, omega arith, omega arith)

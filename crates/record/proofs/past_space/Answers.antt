@@ -26,4 +26,4 @@ loop-i-preserved c = let b = c.args.b.now in
 
 pub returns : goal.returns
 returns c = let b = c.args.b.now in
-    record { b_value = drop_end b c.loop-i.i (omega arith) ∙ sym (walk_ends (past_turn white) (λ u. []) tt b c.loop-i.i (omega arith)) ∙ c.loop-i.invariant.1; lower_bound = omega arith; upper_bound = omega arith }
+    record { b_value = drop_end b _ (omega arith) ∙ sym (walk_ends (past_turn white) (λ u. []) tt b c.loop-i.i (omega arith)) ∙ c.loop-i.invariant.1; lower_bound = omega arith; upper_bound = omega arith }

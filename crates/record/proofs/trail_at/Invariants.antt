@@ -4,8 +4,5 @@ use lib.ListN.{length, drop}
 use Prim.Native.Nat.{◌≤◌, min}
 use Rattle.record.proofs.trail_at.Given as goal
 
-abbrev pub invariant-loop-end : goal.invariant-loop-end
-invariant-loop-end l = (min l.from (length l.b) ≤ l.end) × (l.end ≤ length l.b) × All white (drop l.end l.b)
-
-abbrev pub decreases-loop-end : goal.decreases-loop-end
-decreases-loop-end l = l.end
+abbrev pub invariant-loop-last : goal.invariant-loop-last
+invariant-loop-last l = (min l.from (length l.b) ≤ l.last) × (l.last ≤ length l.b) × All white (drop l.last l.b)
