@@ -197,14 +197,12 @@ fn last_run(s: &[u8], from: usize) -> usize
     ensures s_value { drop result s.now ≡ past is_plain_byte (drop from s.now) }
     ensures lower_bound { (from ≤ result) × (result ≤ length s.now) }
 {
-    let mut i = from;
-    while i < s.len() {
+    for i in from..s.len() {
         if is_mark(s[i]) {
             return i;
         }
-        i += 1;
     }
-    i
+    s.len()
 }
 
 // The first marked place from `from` on, or the length. Four bytes a turn: less is counted, and a processor foresees better where
@@ -251,12 +249,10 @@ fn block_stops(s: &[u8], i: usize) -> bool
 {
     let mut quote = false;
     let mut end = false;
-    let mut k: usize = 0;
-    while k < 64 {
+    for k in 0..64 {
         let b = s[i + k];
         quote = quote | (b == b'\'');
         end = end | (b == b';');
-        k += 1;
     }
     quote | end
 }
@@ -284,14 +280,12 @@ fn text_bytes(s: &[u8], from: usize, end: usize) -> usize
     ensures lower_bound { (from ≤ result) × (result ≤ end) }
     ensures s_value_2 { result < end → drop result s.now ≡ past spoken (drop result s.now) }
 {
-    let mut i = from;
-    while i < end {
+    for i in from..end {
         if is_stop(s[i]) {
             return i;
         }
-        i += 1;
     }
-    i
+    end
 }
 
 // The first quote or `;` from `from` on, or the length. Most strings are short; what is far is sought by blocks.
@@ -300,7 +294,7 @@ fn text_run(s: &[u8], from: usize) -> usize
     ensures s_value { drop result s.now ≡ past spoken (drop from s.now) }
     ensures lower_bound { (from ≤ result) × (result ≤ length s.now) }
 {
-    let near = common::within(from + 32, s.len());
+    let near = s.len().min(from + 32);
     let i = text_bytes(s, from, near);
     if i < near {
         return i;
@@ -450,10 +444,8 @@ fn has_end(s: &[u8], i: usize) -> bool
     ensures { result ≡ false → past unended (drop (i + 16) s.now) ≡ past unended (drop i s.now) }
 {
     let mut hit = false;
-    let mut k: usize = 0;
-    while k < 16 {
+    for k in 0..16 {
         hit = hit | (s[i + k] == b';');
-        k += 1;
     }
     hit
 }
@@ -464,14 +456,12 @@ fn near_end(s: &[u8], from: usize) -> usize
     ensures s_value { drop result s.now ≡ past unended (drop from s.now) }
     ensures lower_bound { (from ≤ result) × (result ≤ length s.now) }
 {
-    let mut i = from;
-    while i < s.len() {
+    for i in from..s.len() {
         if s[i] == b';' {
             return i;
         }
-        i += 1;
     }
-    i
+    s.len()
 }
 
 // Whether sixteen bytes follow the place i, none of them a `;`.

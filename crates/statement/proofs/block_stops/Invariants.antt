@@ -4,11 +4,7 @@ use Rattle.statement.specs.Usual.{spoken}
 use lib.ListN.{drop}
 use mathlib.Core.Path.{◌≡◌}
 use mathlib.Core.Bool.{◌||◌}
-use Prim.Native.Nat.{◌-◌}
 use Rattle.statement.proofs.block_stops.Given as goal
 
 abbrev pub invariant-loop-k : goal.invariant-loop-k
 invariant-loop-k l = Noting (λ j. past spoken (drop j l.s) ≡ past spoken (drop l.i l.s)) 64 (l.quote || l.end) l.i l.k
-
-abbrev pub decreases-loop-k : goal.decreases-loop-k
-decreases-loop-k l = 64 - l.k

@@ -23,4 +23,4 @@ loop-i-preserved c = let s = c.args.s.now in
 
 pub returns : goal.returns
 returns c = let s = c.args.s.now in
-    record { s_value = drop_end s c.loop-i.i (omega arith) ∙ sym (walk_ends (past_turn is_plain_byte) (λ u. []) tt s c.loop-i.i (omega arith)) ∙ c.loop-i.invariant.1; lower_bound = (omega arith, omega arith) }
+    record { s_value = drop_end s _ (omega arith) ∙ sym (walk_ends (past_turn is_plain_byte) (λ u. []) tt s c.loop-i.i (omega arith)) ∙ c.loop-i.invariant.1; lower_bound = (omega arith, omega arith) }

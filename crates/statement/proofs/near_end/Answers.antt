@@ -1,6 +1,6 @@
 use Rattle.statement.specs.TidyLaws.{end_stops, end_goes, tidy_end_none}
 use native.Mathlib.Omega.{arith}
-use mathlib.Core.Path.{refl, ◌∙◌}
+use Rattle.std.proofs.Common.{◌≡◌, length, refl, ◌∙◌}
 use Rattle.statement.proofs.near_end.Goals as goal
 
 pub loop-i-init : goal.loop-i-init
@@ -16,4 +16,5 @@ loop-i-preserved c = let s = c.args.s.now in
 
 pub returns : goal.returns
 returns c = let s = c.args.s.now in
-    record { s_value = tidy_end_none s c.loop-i.i (omega arith) ∙ c.loop-i.invariant.1; lower_bound = (omega arith, omega arith) }
+    let e : c.loop-i.i ≡ length s = omega arith in
+    record { s_value = tidy_end_none s (length s) (omega arith) ∙ (rw e at c.loop-i.invariant.1); lower_bound = (omega arith, omega arith) }

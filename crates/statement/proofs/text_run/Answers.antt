@@ -4,7 +4,7 @@ use mathlib.Core.Path.{◌∙◌}
 use Rattle.statement.proofs.text_run.Goals as goal
 
 pub returns-then-i-near : goal.returns-then-i-near
-returns-then-i-near c = let t = c.text_bytes-i in record { s_value = t.ensures.s_value_2 c.if-i-near.true ∙ t.ensures.s_value; lower_bound = (omega arith, omega (arith, c.within-near.ensures)) }
+returns-then-i-near c = let t = c.text_bytes-i in record { s_value = t.ensures.s_value_2 c.if-i-near.true ∙ t.ensures.s_value; lower_bound = (omega arith, omega (arith, c.min-near.ensures)) }
 
 pub returns : goal.returns
 returns c = let t = c.text_bytes-i in
