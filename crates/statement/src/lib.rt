@@ -33,21 +33,21 @@ pub enum Section {
 }
 
 // A part of the file, from start up to end.
-#[derive(Clone, Copy, PartialEq, Eq)]
+#[derive(Clone, Copy, Default, PartialEq, Eq)]
 pub struct Range {
     pub start: usize,
     pub end: usize,
 }
 
 // A header record's keyword and arguments.
-#[derive(Clone, Copy, PartialEq, Eq)]
+#[derive(Clone, Copy, Default, PartialEq, Eq)]
 pub struct HeaderSpan {
     pub keyword: Range,
     pub args: Range,
 }
 
 // A data record's id, keyword and arguments; complex is 1 for a complex record, whose keyword is 0, 0.
-#[derive(Clone, Copy, PartialEq, Eq)]
+#[derive(Clone, Copy, Default, PartialEq, Eq)]
 pub struct RecordSpan {
     pub id: u32,
     pub keyword: Range,
@@ -321,6 +321,7 @@ fn string_past(s: &[u8], i: usize) -> Option<usize>
 
 // From where a walk goes on after a marked byte with so many open parentheses, and with how many. A slash or a `;` is not usual, nor is a
 // `)` where none is open; the bytes from 64 on that share their bits with the five are passed over.
+#[inline(always)]
 fn mark_step(s: &[u8], i: usize, depth: usize) -> Option<(usize, usize)>
     requires { (i < length s.now) × (depth ≤ i) }
     ensures { WalkStep s.now i depth result }

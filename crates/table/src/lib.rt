@@ -5,7 +5,7 @@
 // reads as zeros, and putting it changes nothing.
 #![tactic(auto)]
 
-ghost use Rattle.std.specs.Prelude.{◌≡◌, ◌+◌, ◌*◌, ◌≤◌, ◌<◌, min, ltb, [], length};
+ghost use Rattle.std.specs.Prelude.{◌≡◌, ◌+◌, ◌*◌, ◌≤◌, ◌<◌, min, ltb, length};
 ghost use Rattle.std.proofs.lemmas.List.Edits.{sets};
 ghost use Rattle.common.specs.Pick.{JustWhere};
 ghost use Rattle.statement.specs.Rows.{told_row, header_row_of};
@@ -37,14 +37,14 @@ pub fn headers_fit(numbers: usize) -> usize
 pub fn table_rows(numbers: usize, told: usize) -> usize
     ensures { result ≡ min told (rows_fit numbers) }
 {
-    common::within(told, rows_fit(numbers))
+    told.min(rows_fit(numbers))
 }
 
 // How many header rows likewise.
 pub fn header_rows(numbers: usize, told: usize) -> usize
     ensures { result ≡ min told (headers_fit numbers) }
 {
-    common::within(told, headers_fit(numbers))
+    told.min(headers_fit(numbers))
 }
 
 // Whether the table has data row r.
@@ -65,11 +65,7 @@ fn among_rows(rows: &[u32], k: usize) -> bool
 pub fn has_header(heads: &[u32], k: usize) -> bool
     ensures { result ≡ ltb k (headers_fit (length heads.now)) }
 {
-    if k < heads.len() {
-        k * 4 + 3 < heads.len()
-    } else {
-        false
-    }
+    k < headers_fit(heads.len())
 }
 
 // The id of row r; 0 where the table has none.
@@ -80,30 +76,18 @@ pub fn id_at(rows: &[u32], r: u32) -> u32
     if at + 5 < rows.len() { rows[at] } else { 0 }
 }
 
-// A row of zeros.
-fn no_row() -> RecordSpan
-    ensures { told_row result ≡ row_numbers [] 0 }
-{
-    RecordSpan {
-        id: 0,
-        keyword: Range { start: 0, end: 0 },
-        args: Range { start: 0, end: 0 },
-        complex: 0,
-    }
-}
-
 // The keyword and the arguments of which the four numbers from `at` on tell.
 fn spans_at(xs: &[u32], at: usize) -> HeaderSpan
     requires { at + 4 ≤ length xs.now }
     ensures { header_row_of result ≡ spans_at xs.now at }
 {
     let keyword = Range {
-        start: common::wide(xs[at]),
-        end: common::wide(xs[at + 1]),
+        start: xs[at] as usize,
+        end: xs[at + 1] as usize,
     };
     let args = Range {
-        start: common::wide(xs[at + 2]),
-        end: common::wide(xs[at + 3]),
+        start: xs[at + 2] as usize,
+        end: xs[at + 3] as usize,
     };
     HeaderSpan { keyword, args }
 }
@@ -132,17 +116,7 @@ pub fn read_row(rows: &[u32], k: usize) -> RecordSpan
     if among_rows(rows, k) {
         return row_there(rows, k);
     }
-    no_row()
-}
-
-// A header row of zeros.
-fn no_header() -> HeaderSpan
-    ensures { header_row_of result ≡ header_numbers [] 0 }
-{
-    HeaderSpan {
-        keyword: Range { start: 0, end: 0 },
-        args: Range { start: 0, end: 0 },
-    }
+    RecordSpan::default()
 }
 
 // Header row k; zeros where the table has none.
@@ -152,7 +126,7 @@ pub fn read_header(heads: &[u32], k: usize) -> HeaderSpan
     if has_header(heads, k) {
         return spans_at(heads, k * 4);
     }
-    no_header()
+    HeaderSpan::default()
 }
 
 // The lower 32 binary digits of a place: all of it, in a file that is read.
@@ -210,19 +184,10 @@ fn highest(found: &[u32], from: usize, to: usize) -> u32
     ensures { AllBelow (result + 1) found.now from to × ((m : _) → 0 < m → AllBelow m found.now from to → result < m) }
 {
     let mut top = 0;
-    let mut i = from;
-    while i < to {
-        top = common::greater(top, found[i]);
-        i += 1;
+    for i in from..to {
+        top = top.max(found[i]);
     }
     top
-}
-
-// 1 where two numbers differ.
-fn differs(a: u32, b: u32) -> usize
-    ensures { (result ≤ 1) × (result ≡ 0 → a ≡ b) × (a ≡ b → result ≡ 0) }
-{
-    if a == b { 0 } else { 1 }
 }
 
 // How many of the rows that are told, all of which the table has, have not their ids. It only counts them, so that no jump waits for a row.
@@ -231,11 +196,9 @@ fn misses(rows: &[u32], ids: &[u32], found: &[u32], from: usize, to: usize) -> u
     ensures { (result ≡ 0 → AllIds rows.now ids.now found.now from to) × (AllIds rows.now ids.now found.now from to → result ≡ 0) }
 {
     let mut missed = 0;
-    let mut i = from;
-    while i < to {
+    for i in from..to {
         let row = found[i] as usize;
-        missed += differs(rows[row * 6], ids[i]);
-        i += 1;
+        missed += usize::from(rows[row * 6] != ids[i]);
     }
     missed
 }

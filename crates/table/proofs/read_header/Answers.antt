@@ -1,4 +1,5 @@
-use mathlib.Core.Path.{sym, ◌∙◌}
+use Rattle.std.proofs.Common.{◌≡◌, sym, ◌∙◌}
+use Rattle.statement.specs.Rows.{header_row, header_row_of}
 use native.Mathlib.Omega.{arith}
 use native.Mathlib.Nat.{add-zero}
 use borrow.Author.Tests.{ltb-true}
@@ -14,4 +15,7 @@ pub returns-then-has_header : goal.returns-then-has_header
 returns-then-has_header c = rw (sym c.has_header.ensures ∙ c.if-has_header.true, add-zero) c.spans_at.ensures
 
 pub returns : goal.returns
-returns c = rw (sym c.has_header.ensures ∙ c.if-has_header.false) c.no_header.ensures
+returns c =
+    let d = c.default.ensures in
+    let r : header_row_of c.default.result ≡ header_row 0 0 0 0 = cc in
+    rw (sym c.has_header.ensures ∙ c.if-has_header.false) r
