@@ -4,14 +4,13 @@
 -- Assumes nothing.
 -- Definitions to be believed: no law, and nothing computed that no theorem ties (docs/BELIEVE.md).
 use Rattle.std.specs.Prelude.{ℕ, ◌+◌, Bool, ◌&&◌, List, [], ◌∷◌, ◌++◌, leb, length}
-use Rattle.error.specs.Refusal.{Told, good, bad, told}
-use Rattle.params.specs.Answer.{Read, reading, onward, read_mapped}
+use Rattle.error.specs.Refusal.{Told, good}
+use Rattle.params.specs.Answer.{Read, onward, read_mapped}
 use Rattle.reals.specs.Answer.{Answer}
 use Rattle.lists.specs.Items.{list_by, list_of}
-use Rattle.lists.specs.Answer.{Fate, fine, faulty, fated, next_by, kind_of}
+use Rattle.lists.specs.Answer.{Fate, fated, next_by, kind_of}
 use Rattle.lists.specs.declared.Kind.{Kind}
-use Rattle.grids.specs.declared.Tally as TallyCode
-use Rattle.grids.specs.declared.NextGrid as NextGridCode
+use Rattle.grids.specs.declared.Size as Code
 
 -- a grid of scalars that f reads: a list of lists
 abbrev pub grid_of : {A : Type 0} → (List ℕ → Answer A) → List ℕ → Fate (List (List A))
@@ -28,9 +27,8 @@ ends_from n [] = []
 ends_from n (r ∷ rs) = (n + length r) ∷ ends_from (n + length r) rs
 
 -- a grid's size: how many rows and numbers it has
-pub record Size : Type 0 where
-  pub rows : ℕ
-  pub numbers : ℕ
+abbrev pub Size : Type 0
+Size = Code.Size
 
 -- a grid's size by its two numbers
 abbrev pub size : ℕ → ℕ → Size
@@ -64,11 +62,6 @@ numbers_of a = onward (λ g. good (flat g)) a
 abbrev pub ends_of : {A : Type 0} → Told (List (List A)) → Told (List ℕ)
 ends_of a = onward (λ g. good (ends_from 0 g)) a
 
--- what the readers of grids answer
-abbrev pub told_next_grid : NextGridCode.NextGrid → Read Size
-told_next_grid (NextGridCode.TheVariants.Count r n t) = reading (good (size r n)) t.place t.end
-told_next_grid (NextGridCode.TheVariants.Refused f t) = reading (bad (told f)) t.place t.end
-
 -- ---- what the code's parts promise
 
 -- how many numbers of a kind a row has, or its refusal
@@ -78,9 +71,3 @@ row_of kind u = fated length (list_by (kind_of kind) u)
 -- a size with a row of k numbers more
 abbrev pub add_row : Size → ℕ → Size
 add_row s k = size (s.rows + 1) (s.numbers + k)
-
--- what the code's count of a grid tells: its size, or the refusal
-abbrev pub told_tally : TallyCode.Tally → Fate Size
-told_tally (TallyCode.TheVariants.All r n) = fine (size r n)
-told_tally (TallyCode.TheVariants.Wrong o) = faulty 12 o
-told_tally (TallyCode.TheVariants.Outside o) = faulty 13 o

@@ -4,21 +4,19 @@ use Rattle.std.proofs.Math.Path.{refl}
 use Rattle.std.proofs.Common.{sym, ◌∙◌, ap, arith, length-append, leb-true}
 use Rattle.error.specs.Refusal.{Refusal, Told, good, bad}
 use Rattle.params.specs.Reader.{param_of}
-use Rattle.params.specs.Answer.{reading, span}
-use Rattle.lists.specs.Items.{items_in, list_by, moved, filled, ShapeAt}
+use Rattle.params.specs.Answer.{reading, Span}
+use Rattle.lists.specs.Items.{items_in, list_by, filled, ShapeAt}
 use Rattle.lists.specs.Answer.{Fate, fine, faulty, fated, mute, kind_of, roomed, next_by, written, values_of}
 use Rattle.lists.specs.Laws.{tally, list_blank, shape_blank}
-use Rattle.lists.specs.ReadLaws.{fills_none, fills_full, list_map, count_mute, roomed_told, roomed_good, onward_bad, moved_told, moved_written, next_uncut, next_cut}
-use Rattle.lists.specs.Places.{Inward, place_of, list_inward, roomed_inward, told_inward, told_place, kind_inward, items_inward}
+use Rattle.lists.specs.ReadLaws.{fills_none, fills_full, list_map, count_mute, roomed_told, roomed_good, onward_bad, next_uncut, next_cut}
+use Rattle.lists.specs.Places.{Inward, list_inward, told_inward, told_place, kind_inward, items_inward}
 use Rattle.lists.specs.Lent.{item_value}
 use Rattle.lists.specs.declared.Kind.{Kind}
 use Rattle.lists.specs.declared.Kind.TheVariants.{References, Integers, Floats, Any}
 use Rattle.lists.specs.declared.Shape.{Shape}
 use Rattle.lists.specs.declared.Shape.TheVariants.{NotList, Blank, Full}
-use Rattle.grids.specs.declared.ReadGrid.{ReadGrid}
-use Rattle.grids.specs.declared.ReadGrid.TheVariants.{Count, Wrong, Outside, Short}
 use Rattle.grids.specs.Grid.{Size, size, size_of, size_fits, grid_fits, flat, ends_from, how_large, numbers_of, ends_of, add_row, row_of}
-use Rattle.grids.specs.Code.{size_told, told_read_grid, reached_in, GridReady}
+use Rattle.grids.specs.Code.{size_told, GridReady}
 
 -- a size into which rows are taken by their lengths has so many rows and so many numbers more
 tally_rows : {A : Type 0} (s : Size) (g : List (List A)) → tally add_row s (map length g) ≡ size (s.rows + length g) (s.numbers + length (flat g))
@@ -52,10 +50,10 @@ size_valued Integers t = size_told_lem (item_value Integers) t
 size_valued (Floats which) t = size_told_lem (item_value (Floats which)) t
 size_valued Any t = size_told_lem (item_value Any) t
 
--- what is told of a grid from its size
-pub grid_told : (kind : Kind) (t : List ℕ) (room ends : ℕ) (a : Told Size) → a ≡ roomed (size_fits room ends) 0 (fated (tally add_row (size 0 0)) (list_by (row_of kind) t))
-    → a ≡ size_told (roomed (grid_fits room ends) 0 (list_by (list_by (item_value kind)) t))
-grid_told kind t room ends a e = e ∙ ap (roomed (size_fits room ends) 0) (size_valued kind t) ∙ roomed_told size_of (size_fits room ends) 0 (list_by (list_by (item_value kind)) t)
+-- what is told of a grid that starts at o, from its size
+pub grid_told : (kind : Kind) (t : List ℕ) (room ends o : ℕ) (a : Told Size) → a ≡ roomed (size_fits room ends) o (fated (tally add_row (size 0 0)) (list_by (row_of kind) t))
+    → a ≡ size_told (roomed (grid_fits room ends) o (list_by (list_by (item_value kind)) t))
+grid_told kind t room ends o a e = e ∙ ap (roomed (size_fits room ends) o) (size_valued kind t) ∙ roomed_told size_of (size_fits room ends) o (list_by (list_by (item_value kind)) t)
 
 -- where two tests put together by `&&` hold, both hold
 and_true : (a b : Bool) → a && b ≡ true → (a ≡ true) × (b ≡ true)
@@ -64,23 +62,23 @@ and_true true false h = (refl, h)
 and_true false true h = (h, refl)
 and_true false false h = (h, h)
 
-module _ {A : Type 0} (x : Fate (List (List A))) (room ends : ℕ) where
+module _ {A : Type 0} (x : Fate (List (List A))) (room ends o : ℕ) where
   -- there is room for a grid whose size is told
-  pub grid_fits_lem : (s : Size) → good s ≡ size_told (roomed (grid_fits room ends) 0 x) → GridReady x room ends
+  pub grid_fits_lem : (s : Size) → good s ≡ size_told (roomed (grid_fits room ends) o x) → GridReady x room ends
   grid_fits_lem s e =
-      let (g, k, l, r) = roomed_good size_of (grid_fits room ends) x s e in
+      let (g, k, l, r) = roomed_good size_of (grid_fits room ends) o x s e in
       let (m, n) = and_true (leb (length (flat g)) room) (leb (length g) ends) l in
       rw k (refl, leb-true (length (flat g)) room m, leb-true (length g) ends n)
 
   -- a grid whose size is told is written: its numbers and its row ends
-  pub grid_written : (s : Size) (out w : List A) (marks m : List ℕ) → good s ≡ size_told (roomed (grid_fits room ends) 0 x) → w ≡ filled (flat (values_of x)) out → m ≡ filled (ends_from 0 (values_of x)) marks
-      → (w ≡ written (numbers_of (roomed (grid_fits room ends) 0 x)) out) × (m ≡ written (ends_of (roomed (grid_fits room ends) 0 x)) marks)
-  grid_written s out w marks m e h l = let (g, k, n, r) = roomed_good size_of (grid_fits room ends) x s e in (rw r (rw k at h), rw r (rw k at l))
+  pub grid_written : (s : Size) (out w : List A) (marks m : List ℕ) → good s ≡ size_told (roomed (grid_fits room ends) o x) → w ≡ filled (flat (values_of x)) out → m ≡ filled (ends_from 0 (values_of x)) marks
+      → (w ≡ written (numbers_of (roomed (grid_fits room ends) o x)) out) × (m ≡ written (ends_of (roomed (grid_fits room ends) o x)) marks)
+  grid_written s out w marks m e h l = let (g, k, n, r) = roomed_good size_of (grid_fits room ends) o x s e in (rw r (rw k at h), rw r (rw k at l))
 
   -- a grid that is refused leaves the lent numbers and row ends as they were
-  pub grid_refused : (q : Refusal) (out : List A) (marks : List ℕ) → bad q ≡ size_told (roomed (grid_fits room ends) 0 x)
-      → (out ≡ written (numbers_of (roomed (grid_fits room ends) 0 x)) out) × (marks ≡ written (ends_of (roomed (grid_fits room ends) 0 x)) marks)
-  grid_refused q out marks e = let k = onward_bad size_of (roomed (grid_fits room ends) 0 x) q e in (rw k refl, rw k refl)
+  pub grid_refused : (q : Refusal) (out : List A) (marks : List ℕ) → bad q ≡ size_told (roomed (grid_fits room ends) o x)
+      → (out ≡ written (numbers_of (roomed (grid_fits room ends) o x)) out) × (marks ≡ written (ends_of (roomed (grid_fits room ends) o x)) marks)
+  grid_refused q out marks e = let k = onward_bad size_of (roomed (grid_fits room ends) o x) q e in (rw k refl, rw k refl)
 
 -- What a grid that reads writes, by what its text is.
 module _ {A : Type 0} (g : List ℕ → Fate A) (t : List ℕ) (r : Shape) (h : ShapeAt t r) where
@@ -106,19 +104,13 @@ module _ {A : Type 0} (g : List ℕ → Fate (List (List A))) (out : List A) (ma
       → (reading (bad q) p' e' ≡ how_large (next_by g (grid_fits room ends) s p e)) × ((out ≡ written (numbers_of (next_by g (grid_fits room ends) s p e).answer) out) × (marks ≡ written (ends_of (next_by g (grid_fits room ends) s p e).answer) marks))
   grids_uncut q p' e' h = let k = next_uncut g (grid_fits room ends) s p e q p' e' h in (rw (← k) refl, (rw (← k) refl, rw (← k) refl))
 
-  -- where a parameter is cut, a reader of grids answers what its text's grid tells, moved to the file, and writes what that writes
-  pub grids_cut : (a z p' e' : ℕ) → reading (good (span a z)) p' e' ≡ param_of s p e → (r : Told Size) (w : List A) (m : List ℕ) → r ≡ size_told (roomed (grid_fits room ends) 0 (g (take (z - a) (drop a s))))
-      → w ≡ written (numbers_of (roomed (grid_fits room ends) 0 (g (take (z - a) (drop a s))))) out → m ≡ written (ends_of (roomed (grid_fits room ends) 0 (g (take (z - a) (drop a s))))) marks
-      → (reading (moved a r) p' e' ≡ how_large (next_by g (grid_fits room ends) s p e)) × ((w ≡ written (numbers_of (next_by g (grid_fits room ends) s p e).answer) out) × (m ≡ written (ends_of (next_by g (grid_fits room ends) s p e).answer) marks))
-  grids_cut a z p' e' h r w m k l n =
-      let x = roomed (grid_fits room ends) 0 (g (take (z - a) (drop a s))) in
-      let c = next_cut g (grid_fits room ends) s p e a z p' e' h in (
-        rw (← c) (ap (λ (y : Told Size). reading y p' e') (ap (moved a) k ∙ moved_told size_of a x)),
-        (
-          rw (← c) (l ∙ moved_written a (numbers_of x) out ∙ ap (λ (y : Told (List A)). written y out) (moved_told flat a x)),
-          rw (← c) (n ∙ moved_written a (ends_of x) marks ∙ ap (λ (y : Told (List ℕ)). written y marks) (moved_told (ends_from 0) a x)),
-        ),
-      )
+  -- where a parameter is cut, a reader of grids answers what its text's grid tells, and writes what that writes
+  pub grids_cut : (w : Span) (p' e' : ℕ) → reading (good w) p' e' ≡ param_of s p e → (r : Told Size) (v : List A) (m : List ℕ) → r ≡ size_told (roomed (grid_fits room ends) w.start (g (take (w.stop - w.start) (drop w.start s))))
+      → v ≡ written (numbers_of (roomed (grid_fits room ends) w.start (g (take (w.stop - w.start) (drop w.start s))))) out → m ≡ written (ends_of (roomed (grid_fits room ends) w.start (g (take (w.stop - w.start) (drop w.start s))))) marks
+      → (reading r p' e' ≡ how_large (next_by g (grid_fits room ends) s p e)) × ((v ≡ written (numbers_of (next_by g (grid_fits room ends) s p e).answer) out) × (m ≡ written (ends_of (next_by g (grid_fits room ends) s p e).answer) marks))
+  grids_cut w p' e' h r v m k l n =
+      let c = next_cut g (grid_fits room ends) s p e w p' e' h in
+      (rw (← c) (ap (λ (y : Told Size). reading y p' e') k), (rw (← c) l, rw (← c) n))
 
 -- the fault of a row of a kind lies in its text
 pub row_inward : (kind : Kind) → Inward (row_of kind)
@@ -130,16 +122,6 @@ tally_inward kind b n o e =
     told_place (tally add_row (size 0 0)) (items_in (row_of kind) b) n o (length b) e
     (omega (arith, items_inward (row_of kind) (row_inward kind) (suc (length b)) 0 b))
 
--- the place that the code tells of a grid's text lies in that text
-pub grid_inward : {A : Type 0} (g : List ℕ → Fate (List (List A))) → Inward g → (fits : List (List A) → Bool) (t : List ℕ) (r : ReadGrid) → told_read_grid r ≡ size_told (roomed fits 0 (g t)) → reached_in r ≤ length t
-grid_inward {A} g inward fits t r e = omega (arith, told_reached r, ap place_of e, size_place (roomed fits 0 (g t)), roomed_inward g inward fits 0 t)
-  where
-    told_reached : (r : ReadGrid) → place_of (told_read_grid r) ≡ reached_in r
-    told_reached (Count m n) = refl
-    told_reached (Wrong o) = refl
-    told_reached (Outside o) = refl
-    told_reached Short = refl
-
-    size_place : (x : Told (List (List A))) → place_of (size_told x) ≡ place_of x
-    size_place (good rs) = refl
-    size_place (bad q) = refl
+-- the place of what is wrong with a grid lies in its text
+pub grid_inward : (kind : Kind) (t : List ℕ) (n o : ℕ) → faulty n o ≡ fated (tally add_row (size 0 0)) (list_by (row_of kind) t) → o ≤ length t
+grid_inward kind t n o e = told_place (tally add_row (size 0 0)) (list_by (row_of kind) t) n o (length t) e (list_inward (row_of kind) (row_inward kind) t)

@@ -4,4 +4,3 @@ pub mod Laws
 pub mod Row
 pub mod Rows
 pub mod GridRight
-pub mod Only

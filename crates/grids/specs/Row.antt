@@ -1,10 +1,13 @@
 -- What the code writes of one row of a grid that reads, by the kind of its items: the lent numbers of that kind, from a place on.
 -- Assumes nothing.
-use Rattle.std.specs.Prelude.{ℕ, ◌+◌, ◌-◌, ◌≤◌, ◌≡◌, refl, List, [], ◌∷◌, ◌++◌, map, Float, length, take, drop}
+use Rattle.std.specs.Prelude.{ℕ, ◌+◌, ◌-◌, ◌≤◌, ◌≡◌, refl, List, [], ◌∷◌, ◌++◌, map, Float, length, take, drop, Result, Ok, Err}
+use Rattle.std.specs.Result.{result_unwrap_or}
+use Rattle.error.specs.declared.Fault.{Fault}
 use Rattle.std.proofs.Common.{sym, ◌∙◌, ap, subst, append-nil, arith, length-drop, take-append-drop, length-take-le, le-leb}
 use Rattle.std.proofs.lemmas.List.{map-append, length-map}
 use Rattle.std.proofs.Math.Seq.{drop-length, take-length}
-use Rattle.error.specs.Refusal.{Told, good}
+use Rattle.error.specs.Refusal.{Told, good, told_result}
+use Rattle.common.specs.Compare.{clash}
 use Rattle.lists.specs.declared.Kind.{Kind}
 use Rattle.lists.specs.declared.Kind.TheVariants.{References, Integers, Floats, Any}
 use Rattle.lists.specs.Items.{list_by, Ready, filled}
@@ -89,3 +92,8 @@ room_bound References refs reals = omega arith
 room_bound Integers refs reals = omega arith
 room_bound (Floats which) refs reals = omega arith
 room_bound Any refs reals = omega arith
+
+-- a row that is told by its count has so many numbers
+pub row_counted : (r : Result ℕ Fault) (n : ℕ) → told_result r ≡ good n → result_unwrap_or r 0 ≡ n
+row_counted (Ok k) n e = cc
+row_counted (Err f) n e = clash (cc)

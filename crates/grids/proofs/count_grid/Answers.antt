@@ -1,9 +1,9 @@
 use Rattle.lists.specs.Laws.{tally, shape_none, shape_blank, shape_full, body_length, told_full, list_none, list_blank}
 use Rattle.lists.specs.Answer.{fated}
-use Rattle.grids.specs.Grid.{size, add_row, row_of, told_tally}
+use Rattle.grids.specs.Grid.{size, add_row, row_of}
 use Rattle.grids.specs.Laws.{tally_inward}
 use native.Mathlib.Omega.{arith}
-use mathlib.Core.Path.{ap, sym, ◌∙◌}
+use mathlib.Core.Path.{ap}
 use lib.ListN.{length, take, drop}
 use Prim.Native.Nat.{◌-◌}
 use Rattle.grids.proofs.count_grid.Goals as goal
@@ -17,15 +17,10 @@ slice_bounds-count_rows-count c = let (n, f, o) = shape_full _ _ c.shape_of.ensu
 pub slice_bounds-count_rows-start : goal.slice_bounds-count_rows-start
 slice_bounds-count_rows-start c = let (n, f, o) = shape_full _ _ c.shape_of.ensures c.in-Full.is in omega (arith, n)
 
-pub overflow_add-result : goal.overflow_add-result
-overflow_add-result c = let t = c.args in
+pub moved-requires : goal.moved-requires
+moved-requires c = let t = c.args in
     let (n, f, o) = shape_full t.t.now _ c.shape_of.ensures c.in-Full.is in
-    omega (arith, n, body_length t.t.now n, tally_inward t.kind (take (length t.t.now - 1 - 1) (drop 1 t.t.now)) 12 c.in-Wrong.o (ap told_tally (sym c.in-Wrong.is) ∙ c.count_rows.ensures))
-
-pub overflow_add-result-in-Outside : goal.overflow_add-result-in-Outside
-overflow_add-result-in-Outside c = let t = c.args in
-    let (n, f, o) = shape_full t.t.now _ c.shape_of.ensures c.in-Full.is in
-    omega (arith, n, body_length t.t.now n, tally_inward t.kind (take (length t.t.now - 1 - 1) (drop 1 t.t.now)) 13 c.in-Outside.o (ap told_tally (sym c.in-Outside.is) ∙ c.count_rows.ensures))
+    omega (arith, n, body_length t.t.now n, tally_inward t.kind (take (length t.t.now - 1 - 1) (drop 1 t.t.now)) _ _ c.in-Err.ensures)
 
 pub returns-in-NotList : goal.returns-in-NotList
 returns-in-NotList c = let t = c.args in
@@ -36,14 +31,10 @@ returns-in-Blank c = let t = c.args in
     let (b, e, h) = shape_blank t.t.now _ c.shape_of.ensures c.in-Blank.is in
     ap (fated (tally add_row (size 0 0))) (list_blank (row_of t.kind) t.t.now b e h)
 
-pub returns-in-All : goal.returns-in-All
-returns-in-All c = let t = c.args in
-    told_full (tally add_row (size 0 0)) (row_of t.kind) t.t.now _ c.shape_of.ensures c.in-Full.is _ (ap told_tally (sym c.in-All.is) ∙ c.count_rows.ensures)
+pub returns-in-Ok : goal.returns-in-Ok
+returns-in-Ok c = let t = c.args in
+    told_full (tally add_row (size 0 0)) (row_of t.kind) t.t.now _ c.shape_of.ensures c.in-Full.is _ c.in-Ok.ensures
 
-pub returns-in-Wrong : goal.returns-in-Wrong
-returns-in-Wrong c = let t = c.args in
-    told_full (tally add_row (size 0 0)) (row_of t.kind) t.t.now _ c.shape_of.ensures c.in-Full.is _ (ap told_tally (sym c.in-Wrong.is) ∙ c.count_rows.ensures)
-
-pub returns-in-Outside : goal.returns-in-Outside
-returns-in-Outside c = let t = c.args in
-    told_full (tally add_row (size 0 0)) (row_of t.kind) t.t.now _ c.shape_of.ensures c.in-Full.is _ (ap told_tally (sym c.in-Outside.is) ∙ c.count_rows.ensures)
+pub returns-in-Err : goal.returns-in-Err
+returns-in-Err c = let t = c.args in
+    rw c.moved.ensures (told_full (tally add_row (size 0 0)) (row_of t.kind) t.t.now _ c.shape_of.ensures c.in-Full.is _ c.in-Err.ensures)

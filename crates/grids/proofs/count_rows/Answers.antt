@@ -1,10 +1,8 @@
-use Rattle.lists.specs.Laws.{tally_starts, tally_bad, tally_last, tally_more, counted_wrong, counted_outside, counted_all}
-use Rattle.lists.specs.Answer.{told_counted}
+use Rattle.lists.specs.Laws.{tally_starts, tally_bad, tally_last, tally_more}
 use Rattle.grids.specs.Grid.{size, add_row, row_of}
 use native.Mathlib.Omega.{arith}
 use lib.ListN.{drop, length-drop}
 use lib.Seq.{length-take-le}
-use mathlib.Core.Path.{ap, sym, ◌∙◌}
 use Prim.Native.Nat.{◌-◌}
 use Rattle.grids.proofs.count_rows.Goals as goal
 
@@ -22,40 +20,31 @@ slice_bounds-count_list-end c = omega (arith, c.item_at-w.ensures.ordered, c.ite
 
 pub overflow_add-numbers : goal.overflow_add-numbers
 overflow_add-numbers c = let w = length-take-le (c.item_at-w.result.stop - c.item_at-w.result.start) (drop c.item_at-w.result.start c.args.b.now) (omega (arith, c.item_at-w.ensures.short, c.item_at-w.ensures.within, length-drop c.item_at-w.result.start c.args.b.now)) in
-    omega (arith, w, c.item_at-w.ensures.ordered, c.item_at-w.ensures.short, c.item_at-w.ensures.within, c.item_at-w.ensures.begins, counted_all _ _ _ c.count_list.ensures.counted_in c.in-All.is)
+    omega (arith, w, c.item_at-w.ensures.ordered, c.item_at-w.ensures.short, c.item_at-w.ensures.within, c.item_at-w.ensures.begins, c.in-Ok.ensures.counted_in)
 
-pub overflow_add-result : goal.overflow_add-result
-overflow_add-result c = let w = length-take-le (c.item_at-w.result.stop - c.item_at-w.result.start) (drop c.item_at-w.result.start c.args.b.now) (omega (arith, c.item_at-w.ensures.short, c.item_at-w.ensures.within, length-drop c.item_at-w.result.start c.args.b.now)) in
-    omega (arith, w, c.item_at-w.ensures.ordered, c.item_at-w.ensures.short, c.item_at-w.ensures.within, c.item_at-w.ensures.begins, counted_wrong _ _ _ c.count_list.ensures.counted_in c.in-Wrong.is)
+pub moved-requires : goal.moved-requires
+moved-requires c = let w = length-take-le (c.item_at-w.result.stop - c.item_at-w.result.start) (drop c.item_at-w.result.start c.args.b.now) (omega (arith, c.item_at-w.ensures.short, c.item_at-w.ensures.within, length-drop c.item_at-w.result.start c.args.b.now)) in
+    omega (arith, w, c.item_at-w.ensures.ordered, c.item_at-w.ensures.short, c.item_at-w.ensures.within, c.item_at-w.ensures.begins, c.in-Err.ensures.counted_in)
 
-pub returns-in-Wrong : goal.returns-in-Wrong
-returns-in-Wrong c = let w = length-take-le (c.item_at-w.result.stop - c.item_at-w.result.start) (drop c.item_at-w.result.start c.args.b.now) (omega (arith, c.item_at-w.ensures.short, c.item_at-w.ensures.within, length-drop c.item_at-w.result.start c.args.b.now)) in
-    tally_bad (row_of c.args.kind) add_row c.args.b.now c.loop-k.i c.loop-k.rows c.item_at-w.result c.item_at-w.ensures (omega arith) (omega arith) (size c.loop-k.rows c.loop-k.numbers) _ c.loop-k.invariant.3 12 _ (ap told_counted (sym c.in-Wrong.is) ∙ c.count_list.ensures.result_value)
+pub returns-in-Err : goal.returns-in-Err
+returns-in-Err c = rw c.moved.ensures (tally_bad (row_of c.args.kind) add_row c.args.b.now c.loop-k.i c.loop-k.rows c.item_at-w.result c.item_at-w.ensures (omega arith) (omega arith) (size c.loop-k.rows c.loop-k.numbers) _ c.loop-k.invariant.3 _ _ c.in-Err.ensures.result_value)
 
-pub overflow_add-result-in-Outside : goal.overflow_add-result-in-Outside
-overflow_add-result-in-Outside c = let w = length-take-le (c.item_at-w.result.stop - c.item_at-w.result.start) (drop c.item_at-w.result.start c.args.b.now) (omega (arith, c.item_at-w.ensures.short, c.item_at-w.ensures.within, length-drop c.item_at-w.result.start c.args.b.now)) in
-    omega (arith, w, c.item_at-w.ensures.ordered, c.item_at-w.ensures.short, c.item_at-w.ensures.within, c.item_at-w.ensures.begins, counted_outside _ _ _ c.count_list.ensures.counted_in c.in-Outside.is)
-
-pub returns-in-Outside : goal.returns-in-Outside
-returns-in-Outside c = let w = length-take-le (c.item_at-w.result.stop - c.item_at-w.result.start) (drop c.item_at-w.result.start c.args.b.now) (omega (arith, c.item_at-w.ensures.short, c.item_at-w.ensures.within, length-drop c.item_at-w.result.start c.args.b.now)) in
-    tally_bad (row_of c.args.kind) add_row c.args.b.now c.loop-k.i c.loop-k.rows c.item_at-w.result c.item_at-w.ensures (omega arith) (omega arith) (size c.loop-k.rows c.loop-k.numbers) _ c.loop-k.invariant.3 13 _ (ap told_counted (sym c.in-Outside.is) ∙ c.count_list.ensures.result_value)
-
-pub returns-then-bound-b : goal.returns-then-bound-b
-returns-then-bound-b c = let w = length-take-le (c.item_at-w.result.stop - c.item_at-w.result.start) (drop c.item_at-w.result.start c.args.b.now) (omega (arith, c.item_at-w.ensures.short, c.item_at-w.ensures.within, length-drop c.item_at-w.result.start c.args.b.now)) in
-    tally_last (row_of c.args.kind) add_row c.args.b.now c.loop-k.i c.loop-k.rows c.item_at-w.result c.item_at-w.ensures (omega arith) (omega arith) (size c.loop-k.rows c.loop-k.numbers) _ c.loop-k.invariant.3 _ (ap told_counted (sym c.in-All.is) ∙ c.count_list.ensures.result_value) c.if-bound-b.true
+pub returns-then-w-b : goal.returns-then-w-b
+returns-then-w-b c = let w = length-take-le (c.item_at-w.result.stop - c.item_at-w.result.start) (drop c.item_at-w.result.start c.args.b.now) (omega (arith, c.item_at-w.ensures.short, c.item_at-w.ensures.within, length-drop c.item_at-w.result.start c.args.b.now)) in
+    tally_last (row_of c.args.kind) add_row c.args.b.now c.loop-k.i c.loop-k.rows c.item_at-w.result c.item_at-w.ensures (omega arith) (omega arith) (size c.loop-k.rows c.loop-k.numbers) _ c.loop-k.invariant.3 _ c.in-Ok.ensures.result_value c.if-w-b.true
 
 pub overflow_add-i : goal.overflow_add-i
 overflow_add-i c = omega (arith, c.item_at-w.ensures.within)
 
 pub loop-k-smaller : goal.loop-k-smaller
-loop-k-smaller c = omega (arith, c.item_at-w.ensures.within, c.item_at-w.ensures.above, c.if-bound-b.false)
+loop-k-smaller c = omega (arith, c.item_at-w.ensures.within, c.item_at-w.ensures.above, c.if-w-b.false)
 
 pub loop-k-preserved : goal.loop-k-preserved
 loop-k-preserved c = let w = length-take-le (c.item_at-w.result.stop - c.item_at-w.result.start) (drop c.item_at-w.result.start c.args.b.now) (omega (arith, c.item_at-w.ensures.short, c.item_at-w.ensures.within, length-drop c.item_at-w.result.start c.args.b.now)) in
     let a = c.item_at-w.ensures.above in
     let z = c.item_at-w.ensures.within in (
       omega (arith, a),
-      omega (arith, w, c.item_at-w.ensures.ordered, c.item_at-w.ensures.short, c.item_at-w.ensures.within, c.item_at-w.ensures.begins, counted_all _ _ _ c.count_list.ensures.counted_in c.in-All.is),
-      omega (arith, z, c.if-bound-b.false),
-      tally_more (row_of c.args.kind) add_row c.args.b.now c.loop-k.i c.loop-k.rows c.item_at-w.result c.item_at-w.ensures (omega arith) (omega arith) (size c.loop-k.rows c.loop-k.numbers) _ c.loop-k.invariant.3 _ (ap told_counted (sym c.in-All.is) ∙ c.count_list.ensures.result_value) (omega (arith, z, c.if-bound-b.false)),
+      omega (arith, w, c.item_at-w.ensures.ordered, c.item_at-w.ensures.short, c.item_at-w.ensures.within, c.item_at-w.ensures.begins, c.in-Ok.ensures.counted_in),
+      omega (arith, z, c.if-w-b.false),
+      tally_more (row_of c.args.kind) add_row c.args.b.now c.loop-k.i c.loop-k.rows c.item_at-w.result c.item_at-w.ensures (omega arith) (omega arith) (size c.loop-k.rows c.loop-k.numbers) _ c.loop-k.invariant.3 _ c.in-Ok.ensures.result_value (omega (arith, z, c.if-w-b.false)),
     )

@@ -6,6 +6,7 @@ use Rattle.grids.specs.Laws.{grid_none, grid_blank, grid_full}
 use native.Mathlib.Omega.{arith}
 use mathlib.Core.List.{List, []}
 use mathlib.Core.Path.{ap, sym, ◌∙◌}
+use Rattle.std.proofs.Common.{inl, inr}
 use Rattle.grids.proofs.fill_grid.Goals as goal
 
 pub overflow_sub-n : goal.overflow_sub-n
@@ -21,12 +22,12 @@ pub fill_rows-requires : goal.fill_rows-requires
 fill_rows-requires c = (grid_full (item_value c.args.kind) c.args.t.now _ c.shape_of.ensures _ _ c.requires c.in-Full.is).1
 
 pub returns-in-NotList : goal.returns-in-NotList
-returns-in-NotList c = absurd (grid_none (item_value c.args.kind) c.args.t.now _ c.shape_of.ensures _ _ c.requires c.in-NotList.is)
-
-pub returns-in-Blank : goal.returns-in-Blank
-returns-in-Blank c = let t = c.args in
-    let q = grid_blank (item_value t.kind) t.t.now _ c.shape_of.ensures (lent_of t.kind t.refs.now [] t.reals.now) t.ends.now c.in-Blank.is in
-    record { reals_after = q.0; ends_after = q.1 }
+returns-in-NotList c = let t = c.args in elim c.in-NotList.is [
+  | inl e ↦ absurd (grid_none (item_value t.kind) t.t.now _ c.shape_of.ensures _ _ c.requires e)
+  | inr e ↦
+      let q = grid_blank (item_value t.kind) t.t.now _ c.shape_of.ensures (lent_of t.kind t.refs.now [] t.reals.now) t.ends.now e in
+      record { reals_after = q.0; ends_after = q.1 }
+]
 
 pub returns-in-Full : goal.returns-in-Full
 returns-in-Full c = let t = c.args in

@@ -45,21 +45,21 @@ bounds-ends-rows c = let t = c.args in
 pub overflow_add-rows : goal.overflow_add-rows
 overflow_add-rows c = omega (arith, c.loop-kind.invariant.0.few, c.loop-kind.invariant.0.within)
 
-pub shape_of-ends-then-bound-b : goal.shape_of-ends-then-bound-b
-shape_of-ends-then-bound-b c = let t = c.args in
+pub shape_of-ends-then-w-b : goal.shape_of-ends-then-w-b
+shape_of-ends-then-w-b c = let t = c.args in
     let (x, y) = row_place (item_value t.kind) t.b.now _ _ _ _ _ _ _ c.loop-kind.invariant.0 c.item_at-w.result c.item_at-w.ensures _ _ c.fill_row-k.ensures.value c.fill_row-k.ensures.reals_after in
     length-set c.loop-kind.ends c.loop-kind.rows _ ∙ y.1
 
-pub returns-then-bound-b : goal.returns-then-bound-b
-returns-then-bound-b c = let t = c.args in
-    let q = row_last (item_value t.kind) t.b.now _ _ _ _ _ _ _ c.loop-kind.invariant.0 c.item_at-w.result c.item_at-w.ensures _ _ c.fill_row-k.ensures.value c.fill_row-k.ensures.reals_after c.if-bound-b.true in record { reals_after = q.0; ends_after = q.1 }
+pub returns-then-w-b : goal.returns-then-w-b
+returns-then-w-b c = let t = c.args in
+    let q = row_last (item_value t.kind) t.b.now _ _ _ _ _ _ _ c.loop-kind.invariant.0 c.item_at-w.result c.item_at-w.ensures _ _ c.fill_row-k.ensures.value c.fill_row-k.ensures.reals_after c.if-w-b.true in record { reals_after = q.0; ends_after = q.1 }
 
 pub overflow_add-i : goal.overflow_add-i
 overflow_add-i c = omega (arith, c.item_at-w.ensures.within)
 
 pub loop-kind-smaller : goal.loop-kind-smaller
-loop-kind-smaller c = omega (arith, c.item_at-w.ensures.within, c.item_at-w.ensures.above, c.if-bound-b.false)
+loop-kind-smaller c = omega (arith, c.item_at-w.ensures.within, c.item_at-w.ensures.above, c.if-w-b.false)
 
 pub loop-kind-preserved : goal.loop-kind-preserved
 loop-kind-preserved c = let t = c.args in
-    (row_goes (item_value t.kind) t.b.now _ _ _ _ _ _ _ c.loop-kind.invariant.0 c.item_at-w.result c.item_at-w.ensures _ _ c.fill_row-k.ensures.value c.fill_row-k.ensures.reals_after (omega (arith, c.item_at-w.ensures.within, c.if-bound-b.false)), (omega arith, omega arith))
+    (row_goes (item_value t.kind) t.b.now _ _ _ _ _ _ _ c.loop-kind.invariant.0 c.item_at-w.result c.item_at-w.ensures _ _ c.fill_row-k.ensures.value c.fill_row-k.ensures.reals_after (omega (arith, c.item_at-w.ensures.within, c.if-w-b.false)), (omega arith, omega arith))
