@@ -9,32 +9,36 @@ use Rattle.find_many.specs.Hints.{indexed_rows, searched_number, Hint, hint_row}
 use Rattle.index.specs.declared.Ids.{Ids}
 use Rattle.index.specs.Search.{row_has_id}
 
--- the numbers from `from` up to `to` stand to the ids as P says, all others are as they were
-pub record Swept (P : ℕ → ℕ → Type 0) (ids before : List ℕ) (from to : ℕ) (after : List ℕ) : Type 0 where
+-- the numbers from `from` up to `to` stand to the ids and to what stood in their place as P says, all others are as they were
+pub record SweptBy (P : ℕ → ℕ → ℕ → Type 0) (ids before : List ℕ) (from to : ℕ) (after : List ℕ) : Type 0 where
   pub size : length after ≡ length before
-  pub each : (i : ℕ) → from ≤ i → i < to → P (get_or ids i 0) (get_or after i 0)
+  pub each : (i : ℕ) → from ≤ i → i < to → P (get_or ids i 0) (get_or before i 0) (get_or after i 0)
   pub front : (i : ℕ) → i < from → get_or after i 0 ≡ get_or before i 0
   pub rest : (i : ℕ) → to ≤ i → get_or after i 0 ≡ get_or before i 0
 
-module _ (P : ℕ → ℕ → Type 0) (ids before : List ℕ) (from : ℕ) where
+-- the numbers from `from` up to `to` stand to the ids as P says, all others are as they were
+abbrev pub Swept : (ℕ → ℕ → Type 0) → List ℕ → List ℕ → ℕ → ℕ → List ℕ → Type 0
+Swept P ids before from to after = SweptBy (λ k r v. P k v) ids before from to after
+
+module _ (P : ℕ → ℕ → ℕ → Type 0) (ids before : List ℕ) (from : ℕ) where
   -- a sweep over no numbers leaves the list as it was
-  pub swept_none : Swept P ids before from from before
+  pub swept_none : SweptBy P ids before from from before
   swept_none = record { size = refl; each = λ i h l. absurd (omega arith); front = λ i h. refl; rest = λ i h. refl }
 
-  module _ (m : ℕ) (after : List ℕ) (h : Swept P ids before from m after) (f : from ≤ m) where
+  module _ (m : ℕ) (after : List ℕ) (h : SweptBy P ids before from m after) (f : from ≤ m) where
     -- a sweep goes one number further, once that is written
-    swept_next : (x : ℕ) → m < length before → P (get_or ids m 0) x → Swept P ids before from (m + 1) (set after m x)
+    swept_next : (x : ℕ) → m < length before → P (get_or ids m 0) (get_or before m 0) x → SweptBy P ids before from (m + 1) (set after m x)
     swept_next x l p = record { size = length-set after m x ∙ h.size; each = each; front = front; rest = rest }
       where
         here : get_or (set after m x) m 0 ≡ x
         here = let s = h.size in get_or-set_same after m x 0 (omega (arith, s, l))
 
-        each : (i : ℕ) → from ≤ i → i < m + 1 → P (get_or ids i 0) (get_or (set after m x) i 0)
+        each : (i : ℕ) → from ≤ i → i < m + 1 → P (get_or ids i 0) (get_or before i 0) (get_or (set after m x) i 0)
         each i a o = go (ordered i m)
           where
-            go : (i < m) ⊎ ((i ≡ m) ⊎ (m < i)) → P (get_or ids i 0) (get_or (set after m x) i 0)
-            go (inl u) = subst (λ (z : ℕ). P (get_or ids i 0) z) (sym (get_or-set_other after m i x 0 (λ z. omega arith))) (h.each i a u)
-            go (inr (inl u)) = subst (λ (z : ℕ). P (get_or ids z 0) (get_or (set after m x) z 0)) (sym u) (subst (λ (z : ℕ). P (get_or ids m 0) z) (sym here) p)
+            go : (i < m) ⊎ ((i ≡ m) ⊎ (m < i)) → P (get_or ids i 0) (get_or before i 0) (get_or (set after m x) i 0)
+            go (inl u) = subst (λ (z : ℕ). P (get_or ids i 0) (get_or before i 0) z) (sym (get_or-set_other after m i x 0 (λ z. omega arith))) (h.each i a u)
+            go (inr (inl u)) = subst (λ (z : ℕ). P (get_or ids z 0) (get_or before z 0) (get_or (set after m x) z 0)) (sym u) (subst (λ (z : ℕ). P (get_or ids m 0) (get_or before m 0) z) (sym here) p)
             go (inr (inr u)) = absurd (omega arith)
 
         front : (i : ℕ) → i < from → get_or (set after m x) i 0 ≡ get_or before i 0
@@ -44,34 +48,41 @@ module _ (P : ℕ → ℕ → Type 0) (ids before : List ℕ) (from : ℕ) where
         rest i a = get_or-set_other after m i x 0 (λ z. omega arith) ∙ h.rest i (omega arith)
 
 -- a sweep that has come to the part's end is one over the part
-pub swept_end : (P : ℕ → ℕ → Type 0) (ids before after : List ℕ) (from m to : ℕ) → Swept P ids before from m after → m ≡ to → Swept P ids before from to after
-swept_end P ids before after from m to h e = subst (λ (z : ℕ). Swept P ids before from z after) e h
+pub swept_end : (P : ℕ → ℕ → ℕ → Type 0) (ids before after : List ℕ) (from m to : ℕ) → SweptBy P ids before from m after → m ≡ to → SweptBy P ids before from to after
+swept_end P ids before after from m to h e = subst (λ (z : ℕ). SweptBy P ids before from z after) e h
 
 -- a sweep over a part, which both lists have, that has come to m
-pub record Sweeping (P : ℕ → ℕ → Type 0) (ids before : List ℕ) (from to : ℕ) (after : List ℕ) (m : ℕ) : Type 0 where
+pub record Sweeping (P : ℕ → ℕ → ℕ → Type 0) (ids before : List ℕ) (from to : ℕ) (after : List ℕ) (m : ℕ) : Type 0 where
   pub low : from ≤ m
   pub high : m ≤ to
   pub asked : to ≤ length ids
   pub room : to ≤ length before
-  pub swept : Swept P ids before from m after
+  pub swept : SweptBy P ids before from m after
 
-module _ {P : ℕ → ℕ → Type 0} {ids before : List ℕ} {from to : ℕ} where
+module _ {P : ℕ → ℕ → ℕ → Type 0} {ids before : List ℕ} {from to : ℕ} where
   -- a sweep over a part begins at its start, with the list as it was
   pub sweep_none : from ≤ to → to ≤ length ids → to ≤ length before → Sweeping P ids before from to before from
   sweep_none f a r = record { low = omega arith; high = f; asked = a; room = r; swept = swept_none P ids before from }
 
   module _ {after : List ℕ} {m : ℕ} (h : Sweeping P ids before from to after m) where
-    -- a sweep over a part writes the next number and comes one further
-    pub sweep_next : m < to → {x : ℕ} → P (get_or ids m 0) x → Sweeping P ids before from to (set after m x) (m + 1)
-    sweep_next l {x} p = let r = h.room in record { low = omega arith; high = omega arith; asked = h.asked; room = r; swept = swept_next P ids before from m after h.swept h.low x (omega arith) p }
+    -- a sweep over a part writes the next number, by the id and what still stands there, and comes one further
+    pub sweep_next : m < to → {x : ℕ} → P (get_or ids m 0) (get_or after m 0) x → Sweeping P ids before from to (set after m x) (m + 1)
+    sweep_next l {x} p =
+        let r = h.room in
+        let old : P (get_or ids m 0) (get_or before m 0) x = subst (λ (z : ℕ). P (get_or ids m 0) z x) (h.swept.rest m (omega arith)) p in
+        record { low = omega arith; high = omega arith; asked = h.asked; room = r; swept = swept_next P ids before from m after h.swept h.low x (omega arith) old }
 
-    -- what stands beside the next id before it is swept is what stood there
+    -- what holds of the next id and of what stood beside it before the sweep holds of what stands there
     pub sweep_old : (Q : ℕ → ℕ → Type 0) → m < to → ((i : ℕ) → from ≤ i → i < to → Q (get_or ids i 0) (get_or before i 0)) → Q (get_or ids m 0) (get_or after m 0)
     sweep_old Q l q = subst (λ (z : ℕ). Q (get_or ids m 0) z) (sym (h.swept.rest m (omega arith))) (q m h.low l)
 
     -- a sweep over a part that has come to the part's end is done
-    pub sweep_end : to ≤ m → Swept P ids before from to after
+    pub sweep_end : to ≤ m → SweptBy P ids before from to after
     sweep_end e = swept_end P ids before after from m to h.swept (omega arith)
+
+-- a sweep after which P holds is one after which Q holds, where Q follows from P
+pub swept_by : (P : ℕ → ℕ → ℕ → Type 0) (Q : ℕ → ℕ → Type 0) (ids xs ys : List ℕ) (from to : ℕ) → ((k r v : ℕ) → P k r v → Q k v) → SweptBy P ids xs from to ys → Swept Q ids xs from to ys
+swept_by P Q ids xs ys from to f a = record { size = a.size; each = λ i h l. f (get_or ids i 0) (get_or xs i 0) (get_or ys i 0) (a.each i h l); front = a.front; rest = a.rest }
 
 -- a second sweep over the same part is one over what stood there before the first
 pub swept_then : (P Q : ℕ → ℕ → Type 0) (ids xs ys zs : List ℕ) (from to : ℕ) → Swept P ids xs from to ys → Swept Q ids ys from to zs → Swept Q ids xs from to zs

@@ -5,11 +5,11 @@
 // the processor wait for many lines of memory at once; a search waits for one.
 #![tactic(auto)]
 
-ghost use Rattle.std.specs.Prelude.{◌≡◌, true, false, ◌&&◌, ◌+◌, ◌-◌, ◌*◌, ◌/◌, ◌%◌, ◌≤◌, ◌<◌, min, max, leb, eqb, length, get_or};
+ghost use Rattle.std.specs.Prelude.{ℕ, ◌≡◌, true, false, ◌&&◌, ◌+◌, ◌-◌, ◌*◌, ◌/◌, ◌%◌, ◌≤◌, ◌<◌, min, max, leb, eqb, length, get_or};
 ghost use Rattle.index.specs.Search.{first_row, searched, range_width};
 ghost use Rattle.find_many.specs.Finds.{row_number, RowsTold};
 ghost use Rattle.find_many.specs.Hints.{indexed_rows, searched_number, Hint, DenseRow, EvenRow, start_near, StartsAt, NearRow, RisesByStep, Guided};
-ghost use Rattle.find_many.specs.Sweep.{Swept};
+ghost use Rattle.find_many.specs.Sweep.{Swept, SweptBy};
 
 use index::Ids;
 
@@ -31,6 +31,17 @@ pub fn row_of(rows: &[u32], slots: &[u64], b: Ids, id: u32) -> u32
     number_of(index::seek(rows, slots, b, id))
 }
 
+// Writes what `tell` says of each id of a part, and of the number beside it, in the place of that number.
+fn sweep<F: Fn(u32, u32) -> u32>(ids: &[u32], found: &mut [u32], from: usize, to: usize, tell: F)
+    requires part { (from ≤ to) × (to ≤ length ids.now) × (to ≤ length found.old) }
+    requires tells { (i : ℕ) → from ≤ i → i < to → F.pre tell (get_or ids.now i 0) (get_or found.old i 0) }
+    ensures { SweptBy (λ k r v. F.post tell k r v) ids.now found.old from to found.new }
+{
+    for i in from..to {
+        found[i] = tell(ids[i], found[i]);
+    }
+}
+
 // Whether the numbers beside the slots say that ids are dense in file order.
 fn filed(b: Ids) -> bool
     ensures { result ≡ (b.direct && (b.distinct && eqb b.shift 0)) }
@@ -44,30 +55,6 @@ fn dense_row(first: u32, id: u32) -> u32
     ensures { DenseRow first id result }
 {
     if id < first { 4294967295 } else { id - first }
-}
-
-// The rows of ids that are dense in file order; they are not read.
-fn dense_near(first: u32, ids: &[u32], found: &mut [u32], from: usize, to: usize)
-    requires { (from ≤ to) × (to ≤ length ids.now) × (to ≤ length found.old) }
-    ensures { Swept (DenseRow first) ids.now found.old from to found.new }
-{
-    let mut i = from;
-    while i < to {
-        found[i] = dense_row(first, ids[i]);
-        i += 1;
-    }
-}
-
-// The rows that a search looks at first, where there are such; they are not read.
-fn slot_near(slots: &[u64], b: Ids, ids: &[u32], found: &mut [u32], from: usize, to: usize)
-    requires { (from ≤ to) × (to ≤ length ids.now) × (to ≤ length found.old) }
-    ensures { Swept (λ k v. v ≡ first_row slots.now b k) ids.now found.old from to found.new }
-{
-    let mut i = from;
-    while i < to {
-        found[i] = index::first_row(slots, b, ids[i]);
-        i += 1;
-    }
 }
 
 // The step by which n ids rise from the first to the last, or 0 where there is none.
@@ -136,19 +123,6 @@ fn even_row(first: u32, step: u32, scale: u64, id: u32) -> u32
     }
 }
 
-// The rows of ids that rise by one step; they are not read.
-fn even_near(first: u32, step: u32, ids: &[u32], found: &mut [u32], from: usize, to: usize)
-    requires { (from ≤ to) × (to ≤ length ids.now) × (to ≤ length found.old) × (0 < step) }
-    ensures { Swept (EvenRow first step) ids.now found.old from to found.new }
-{
-    let scale = 4294967295 / (step as u64) + 1;
-    let mut i = from;
-    while i < to {
-        found[i] = even_row(first, step, scale, ids[i]);
-        i += 1;
-    }
-}
-
 // The lesser of two numbers.
 fn least(a: u64, b: usize) -> usize
     ensures { result ≡ min a b }
@@ -197,30 +171,6 @@ fn near_row(slots: &[u64], n: usize, b: Ids, start: u32, id: u32) -> u32
     (lo + common::share(inside_of(far, b.shift), (hi - lo) as u32, b.shift)) as u32
 }
 
-// Where the ranges of ids begin by the guide.
-fn starts(slots: &[u64], n: usize, b: Ids, ids: &[u32], found: &mut [u32], from: usize, to: usize)
-    requires { (from ≤ to) × (to ≤ length ids.now) × (to ≤ length found.old) × (1 < n) × (n ≤ length slots.now) × (n ≤ 1073741824) }
-    ensures { Swept (λ k v. v ≡ start_near slots.now n b k) ids.now found.old from to found.new }
-{
-    let mut i = from;
-    while i < to {
-        found[i] = range_start(slots, n, b, ids[i]);
-        i += 1;
-    }
-}
-
-// The rows of ids by the guide, whose ranges begin where they are told to; the rows are not read.
-fn nears(slots: &[u64], n: usize, b: Ids, ids: &[u32], found: &mut [u32], from: usize, to: usize)
-    requires { (from ≤ to) × (to ≤ length ids.now) × (to ≤ length found.old) × (1 < n) × (n ≤ length slots.now) × (n ≤ 1073741824) × StartsAt slots.now n b ids.now found.old from to }
-    ensures { Swept (NearRow slots.now n b) ids.now found.old from to found.new }
-{
-    let mut i = from;
-    while i < to {
-        found[i] = near_row(slots, n, b, found[i], ids[i]);
-        i += 1;
-    }
-}
-
 // The rows of ids by the guide. The slots of all are read before any is made use of, so that their lines are fetched side by side.
 fn guide_near(
     rows: &[u32],
@@ -235,8 +185,14 @@ fn guide_near(
     ensures { Swept (Hint rows.now slots.now b) ids.now found.old from to found.new }
 {
     let n = index::room(rows.len(), slots.len(), b.count);
-    starts(slots, n, b, ids, found, from, to);
-    nears(slots, n, b, ids, found, from, to);
+    sweep(ids, found, from, to, |id, _| range_start(slots, n, b, id));
+    sweep(
+        ids,
+        found,
+        from,
+        to,
+        |id, start| near_row(slots, n, b, start, id),
+    );
 }
 
 // The rows that can be told without reading one: by the distance, the step or the guide, or where a search looks first.
@@ -245,20 +201,27 @@ fn near(rows: &[u32], slots: &[u64], b: Ids, ids: &[u32], found: &mut [u32], fro
     ensures { Swept (Hint rows.now slots.now b) ids.now found.old from to found.new }
 {
     if filed(b) {
-        dense_near(b.first, ids, found, from, to);
+        sweep(ids, found, from, to, |id, _| dense_row(b.first, id));
         return;
     }
     let n = index::room(rows.len(), slots.len(), b.count);
     let step = step_for(b, n);
     if 0 < step {
-        even_near(b.first, step, ids, found, from, to);
+        let scale = 4294967295 / (step as u64) + 1;
+        sweep(
+            ids,
+            found,
+            from,
+            to,
+            |id, _| even_row(b.first, step, scale, id),
+        );
         return;
     }
     if is_guided(b, n) {
         guide_near(rows, slots, b, ids, found, from, to);
         return;
     }
-    slot_near(slots, b, ids, found, from, to);
+    sweep(ids, found, from, to, |id, _| index::first_row(slots, b, id));
 }
 
 // The row of an id: the one that is told, where it has the id, else what is sought.
@@ -270,26 +233,6 @@ fn settled(rows: &[u32], slots: &[u64], b: Ids, r: u32, id: u32) -> u32
         return r;
     }
     row_of(rows, slots, b, id)
-}
-
-// Looks at the rows that are told, one by one, and seeks what they are not.
-fn settle(
-    rows: &[u32],
-    slots: &[u64],
-    b: Ids,
-    ids: &[u32],
-    found: &mut [u32],
-    from: usize,
-    to: usize,
-)
-    requires { (from ≤ to) × (to ≤ length ids.now) × (to ≤ length found.old) × ((i : _) → from ≤ i → i < to → Hint rows.now slots.now b (get_or ids.now i 0) (get_or found.old i 0)) }
-    ensures { Swept (λ k v. v ≡ searched_number rows.now slots.now b k) ids.now found.old from to found.new }
-{
-    let mut i = from;
-    while i < to {
-        found[i] = settled(rows, slots, b, found[i], ids[i]);
-        i += 1;
-    }
 }
 
 // The rows of a part of the ids: what can be told is told, then all of it is looked at; where all have their ids that is all. Where one has
@@ -311,7 +254,13 @@ fn get_part(
     if table::all_have(rows, n, ids, found, from, to) {
         return;
     }
-    settle(rows, slots, b, ids, found, from, to);
+    sweep(
+        ids,
+        found,
+        from,
+        to,
+        |id, row| settled(rows, slots, b, row, id),
+    );
 }
 
 // The rows of all ids, 128 at a time, so that the lines which one sweep over a part fetched are still near for the next.
@@ -319,6 +268,7 @@ fn get_parts(rows: &[u32], slots: &[u64], b: Ids, ids: &[u32], found: &mut [u32]
     requires { length ids.now ≤ length found.old }
     ensures { Swept (λ k v. v ≡ searched_number rows.now slots.now b k) ids.now found.old 0 (length ids.now) found.new }
 {
+    // Kept: a part ends where the next begins, so that a range by steps of 128 would say each bound twice.
     let mut i: usize = 0;
     while i < ids.len() {
         let to = i + (ids.len() - i).min(128);
