@@ -2,10 +2,9 @@
 -- conversion unit, at the start of that unit's arguments. Nothing else that refuses a factor has this number, where the lookup and the
 -- records' parts do not have it; those of a file do not. Assumes nothing.
 use Prim.Native.Nat.{ℕ, zero, suc, ◌+◌, ◌-◌}
-use Rattle.std.specs.Prelude.{◌≡◌, refl, Bool, true, false, List, [], map, eqb, length, take, drop}
+use Rattle.std.specs.Prelude.{◌≡◌, refl, Bool, true, false, List, [], map, eqb, length, take, drop, Option, Some, None}
 use Rattle.std.proofs.Math.Path.{sym, ap, subst}
 use Rattle.std.proofs.Common.{◌∙◌, inl, inr, arith}
-use Rattle.std.proofs.Math.Option.{Option, none, some}
 use Rattle.common.specs.Pick.{pick}
 use Rattle.common.specs.Compare.{clash}
 use Rattle.error.specs.Refusal.{Refusal, refusal, Told, good, bad}
@@ -41,8 +40,8 @@ Shallow (bad q) = q.number ≡ 15 → ⊥
 
 -- a record that was looked up, where neither the lookup nor a fault in the record's parts has the number 15
 abbrev pub FoundShallow : Told (Option SeenRecord) → Type 0
-FoundShallow (good none) = Unit {0}
-FoundShallow (good (some t)) = Shallow t.parts
+FoundShallow (good None) = Unit {0}
+FoundShallow (good (Some t)) = Shallow t.parts
 FoundShallow (bad q) = q.number ≡ 15 → ⊥
 
 -- ---- what refuses with another number
@@ -50,7 +49,7 @@ FoundShallow (bad q) = q.number ≡ 15 → ⊥
 self_shallow : (k : Kind) (t : SeenRecord) → Shallow t.parts → Shallow (self_or k t)
 self_shallow k t h = go (same_kind t.kind k) t.parts h
   where
-    go : (b : Bool) (ps : Told (List UnitPart)) → Shallow ps → Shallow (pick b (good (some t.run)) (good_by (first_unit_part k) ps))
+    go : (b : Bool) (ps : Told (List UnitPart)) → Shallow ps → Shallow (pick b (good (Some t.run)) (good_by (first_unit_part k) ps))
     go true ps h = tt
     go false (good ps) h = tt
     go false (bad q) h = h
@@ -59,7 +58,7 @@ self_shallow k t h = go (same_kind t.kind k) t.parts h
 run_shallow : (t : SeenRecord) → Shallow t.parts → Shallow (measure_run t)
 run_shallow t h = go (same_kind t.kind Kinds.Complex) t.parts h
   where
-    go : (b : Bool) (ps : Told (List UnitPart)) → Shallow ps → Shallow (pick b (good_by (first_unit_part LengthMeasureWithUnit) ps) (good (some t.run)))
+    go : (b : Bool) (ps : Told (List UnitPart)) → Shallow ps → Shallow (pick b (good_by (first_unit_part LengthMeasureWithUnit) ps) (good (Some t.run)))
     go true (good ps) h = tt
     go true (bad q) h = h
     go false ps h = tt
@@ -187,13 +186,13 @@ pub find_shallow : (s rows slots : List ℕ) (ids : Ids) (i : ℕ) → FoundShal
 unfolding find_of
 find_shallow s rows slots ids i = go (row_found rows (searched rows slots ids i))
   where
-    one : (w : Row) (b : Bool) → FoundShallow (good_by some (pick b (good (seen_record_at s w)) (bad (refusal 9 0 0))))
+    one : (w : Row) (b : Bool) → FoundShallow (good_by Some (pick b (good (seen_record_at s w)) (bad (refusal 9 0 0))))
     one w true = pieces_shallow s w
     one w false = λ z. absurd (omega (arith, z))
 
     go : (x : Option Row) → FoundShallow (seen_record_found s x)
-    go none = tt
-    go (some w) = one w (span_fine (length s) w.arg_start w.arg_end)
+    go None = tt
+    go (Some w) = one w (span_fine (length s) w.arg_start w.arg_end)
 
 -- of a file's length unit: 15 is given only where the seventeenth conversion unit on a chain is met
 pub file_too_deep : (s rows slots : List ℕ) (ids : Ids) (w : Row) {t : SeenRecord} {q : Refusal} → seen_record_of s w ≡ good t → length_of s (find_of s (row_for rows slots ids)) 16 t ≡ bad q → q.number ≡ 15

@@ -1,8 +1,7 @@
 -- Lists told without a loop: that each member of a list is so, which one is the first to give an answer, and which one the last. A list
 -- is cut around a member into those before it and those after it. Assumes nothing.
 -- Definitions to be believed: no law, and nothing computed that no theorem ties (docs/BELIEVE.md).
-use Rattle.std.specs.Prelude.{◌≡◌, List, ◌∷◌, ◌++◌}
-use Rattle.std.proofs.Math.Option.{Option, none, some}
+use Rattle.std.specs.Prelude.{◌≡◌, List, ◌∷◌, ◌++◌, Option, Some, None}
 
 -- P holds of each member of a list, wherever it is cut around one
 abbrev pub Each : {A : Type 0} → (A → Type 0) → List A → Type 0
@@ -23,10 +22,10 @@ pub record IsLastTold {A R : Type 0} (g : A → Option R) (xs : List A) (a : R) 
   pub one : A
   pub back : List A
   pub cut : xs ≡ front ++ (one ∷ back)
-  pub gives : g one ≡ some a
-  pub after : Each (λ x. g x ≡ none) back
+  pub gives : g one ≡ Some a
+  pub after : Each (λ x. g x ≡ None) back
 
 -- what g tells of the last member of which it tells something, or that there is none
 abbrev pub LastToldForm : {A R : Type 0} → (A → Option R) → List A → Option R → Type 0
-LastToldForm g xs none = Each (λ x. g x ≡ none) xs
-LastToldForm g xs (some a) = IsLastTold g xs a
+LastToldForm g xs None = Each (λ x. g x ≡ None) xs
+LastToldForm g xs (Some a) = IsLastTold g xs a

@@ -1,7 +1,6 @@
 -- The first and the last of a list: laws, and the last one computed. Assumes nothing.
-use Rattle.std.specs.Prelude.{◌≡◌, refl, ◌⊎◌, List, [], ◌∷◌, ◌++◌}
+use Rattle.std.specs.Prelude.{◌≡◌, refl, ◌⊎◌, List, [], ◌∷◌, ◌++◌, Option, Some, None}
 use Rattle.std.proofs.Common.{sym, ◌∙◌, ap, subst, inl, inr}
-use Rattle.std.proofs.Math.Option.{Option, none, some}
 use Rattle.common.specs.Compare.{clash}
 use Rattle.lookup.specs.Records.{or_else}
 use Rattle.factors.specs.Each.{Each, IsFirst, LastToldForm}
@@ -58,31 +57,31 @@ module _ {A R : Type 0} (Passed : A → Type 0) (Gives : A → R → Type 0) whe
 
 -- what g tells of the last member of which it tells something, computed: that of the later members, or else of this one
 abbrev pub last_by : {A R : Type 0} → (A → Option R) → List A → Option R
-last_by g [] = none
+last_by g [] = None
 last_by g (x ∷ xs) = or_else (last_by g xs) (g x)
 
 module _ {A R : Type 0} (g : A → Option R) where
   -- what `last_by` computes is what g tells of the last member, or there is none
   pub last_told_is : (xs : List A) → LastToldForm g xs (last_by g xs)
-  last_told_is [] = each_nil (λ x. g x ≡ none)
+  last_told_is [] = each_nil (λ x. g x ≡ None)
   last_told_is (v ∷ xs) = go (last_by g xs) (last_told_is xs) (g v) refl
     where
       go : (o : Option R) → LastToldForm g xs o → (w : Option R) → g v ≡ w → LastToldForm g (v ∷ xs) (or_else o w)
-      go (some a) h w e = record { front = v ∷ h.front; one = h.one; back = h.back; cut = ap (λ (ys : List A). v ∷ ys) h.cut; gives = h.gives; after = h.after }
-      go none h (some a) e = record { front = []; one = v; back = xs; cut = refl; gives = e; after = h }
-      go none h none e = each_more (λ x. g x ≡ none) v xs e h
+      go (Some a) h w e = record { front = v ∷ h.front; one = h.one; back = h.back; cut = ap (λ (ys : List A). v ∷ ys) h.cut; gives = h.gives; after = h.after }
+      go None h (Some a) e = record { front = []; one = v; back = xs; cut = refl; gives = e; after = h }
+      go None h None e = each_more (λ x. g x ≡ None) v xs e h
 
   -- where g tells nothing of each member, `last_by` computes none
-  last_none : (xs : List A) → Each (λ x. g x ≡ none) xs → none ≡ last_by g xs
+  last_none : (xs : List A) → Each (λ x. g x ≡ None) xs → None ≡ last_by g xs
   last_none [] h = refl
-  last_none (v ∷ xs) h = rw (← last_none xs (each_less (λ x. g x ≡ none) v xs h)) (sym (each_head (λ x. g x ≡ none) v xs h))
+  last_none (v ∷ xs) h = rw (← last_none xs (each_less (λ x. g x ≡ None) v xs h)) (sym (each_head (λ x. g x ≡ None) v xs h))
 
   -- the last member of which g tells something, behind any others, is what `last_by` computes
-  last_behind : (front : List A) (x : A) (back : List A) (a : R) → g x ≡ some a → Each (λ x. g x ≡ none) back → some a ≡ last_by g (front ++ (x ∷ back))
+  last_behind : (front : List A) (x : A) (back : List A) (a : R) → g x ≡ Some a → Each (λ x. g x ≡ None) back → Some a ≡ last_by g (front ++ (x ∷ back))
   last_behind [] x back a e h = rw (← last_none back h) (sym e)
   last_behind (v ∷ front) x back a e h = rw (← last_behind front x back a e h) refl
 
   -- nothing but what `last_by` computes is told of the last member
   pub last_told_only : (xs : List A) (o : Option R) → LastToldForm g xs o → o ≡ last_by g xs
-  last_told_only xs none h = last_none xs h
-  last_told_only xs (some a) h = last_behind h.front h.one h.back a h.gives h.after ∙ ap (last_by g) (sym h.cut)
+  last_told_only xs None h = last_none xs h
+  last_told_only xs (Some a) h = last_behind h.front h.one h.back a h.gives h.after ∙ ap (last_by g) (sym h.cut)

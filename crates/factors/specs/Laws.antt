@@ -1,24 +1,27 @@
 -- Laws for the code: each way out of a function, over plain variables. Assumes nothing.
 use Prim.Native.Nat.{ℕ, zero, suc, ◌-◌, ◌≤◌}
-use Prim.Native.String.{String}
-use Rattle.std.specs.Prelude.{◌≡◌, Bool, true, false, List, [], ◌∷◌, map, eqb, length, take, drop}
+use Rattle.std.specs.Prelude.{◌≡◌, Bool, true, false, List, [], ◌∷◌, map, eqb, length, take, drop, Option, Some, None, Result, Ok, Err, option_map}
 use Rattle.std.proofs.Math.Path.{refl, ap}
-use Rattle.std.proofs.Common.{sym, ◌∙◌, subst, le-leb, le-ltb}
-use Rattle.std.proofs.Math.Option.{Option, none, some}
+use Rattle.std.proofs.Math.Option.{Option as Found, none, some}
+use Rattle.std.proofs.Common.{sym, ◌∙◌, subst, le-ltb}
 use native.Mathlib.Omega.{arith}
 use Rattle.common.specs.Pick.{pick}
 use Rattle.common.specs.Compare.{clash}
 use Rattle.common.specs.Tests.{bounds}
-use Rattle.error.specs.Refusal.{Refusal, refusal, Told, good, bad}
-use Rattle.record.specs.Word.{same_bytes, is_word}
+use Rattle.error.specs.Refusal.{Refusal, refusal, Told, good, bad, told, told_result}
+use Rattle.error.specs.declared.Fault.{Fault}
+use Rattle.error.specs.declared.Fault.TheVariants.{NoMarker, TooLong, OpenComment, OpenString, NoEnd, OpenParen, BadRecord, NoRow, OutOfFile, NoParameter, OpenLiteral, WrongType, OutsideClass, NoRecord, TooDeep, TooShort}
+use Rattle.record.specs.Word.{is_word}
 use Rattle.common.specs.Bytes.{bytes}
 use Rattle.statement.specs.Rows.{Row, HeaderRow}
+use Rattle.statement.specs.declared.Range.{Range}
 use Rattle.kinds.specs.Kind.{kind_of_keyword, kind_is}
 use Rattle.kinds.specs.Rules.{rank_of, NamedKind, KindForm}
 use Rattle.kinds.specs.declared.Kind.{Kind}
 use Rattle.kinds.specs.declared.Kind.TheVariants.{GeometricRepresentationContext, GlobalUnitAssignedContext, GlobalUncertaintyAssignedContext, LengthUnit, PlaneAngleUnit, SolidAngleUnit, SiUnit, ConversionBasedUnit, UncertaintyMeasureWithUnit, LengthMeasureWithUnit, Complex, Other}
 use Rattle.params.specs.ParameterEnd.{cut_of, started}
-use Rattle.params.specs.Answer.{ParamEnd, stops_before, literal_open, Read, reading, Span, span, reader_in_file, onward}
+use Rattle.params.specs.Answer.{ParamEnd, stops_before, literal_open, Read, reading, Span, span, reader_in_file, onward, told_read}
+use Rattle.params.specs.declared.State.{State}
 use Rattle.params.specs.Reader.{bounded, param_begun, param_of}
 use Rattle.params.specs.Skips.{skip_of}
 use Rattle.scalars.specs.Scalars.{measure_of}
@@ -27,9 +30,7 @@ use Rattle.reals.specs.Scalar.{reference_of}
 use Rattle.reals.specs.Answer.{Answer}
 use Rattle.prefixes.specs.Prefix.{factor_of}
 use Rattle.prefixes.specs.Length.{length_factor_of}
-use Rattle.words.specs.Answer.{told_next_name}
 use Rattle.words.specs.Places.{SpanIn, ToldIn, name_in_lem}
-use Rattle.words.specs.declared.NextName as NextNameCode
 use Rattle.parts.specs.Part.{part_of, parts_of, first_kind}
 use Rattle.parts.specs.Rules.{part_is_kind}
 use Rattle.index.specs.Search.{searched}
@@ -37,11 +38,18 @@ use Rattle.index.specs.declared.Ids.{Ids}
 use Rattle.lookup.specs.Lookup.{span_fine, span_in, kind_in, row_found, row_for}
 use Rattle.lookup.specs.Lookup as Lookup
 use Rattle.factors.specs.SeenRecords.{good_by, same_kind, unit_part_of, SeenRecord, seen_record_at, seen_record_of, find_of, first_unit_part, self_or}
-use Rattle.factors.specs.Factor.{unread_of, read_or, Chain, known, leads, conversion_of, si_or_conversion, link_of, chained, base_of, measure_at, measure_in, length_of, angle_number, angle_of}
-use Rattle.factors.specs.Unit.{name_or, next_unit_name, prefix_in, unit_in, factor_if_named, si_length, si_angle, measure_ref, option_by, scaled_by, measure_run}
-use Rattle.factors.specs.Code.{named_in, is_named}
+use Rattle.factors.specs.Factor.{unread_of, read_or, number_or_none, Chain, known, leads, conversion_of, si_or_conversion, link_of, chained, base_of, measure_at, measure_in, length_of, angle_number, angle_of}
+use Rattle.factors.specs.Unit.{name_or, next_unit_name, prefix_in, factor_if_named, si_length, si_angle, measure_ref, option_by, scaled_by, measure_run}
+use Rattle.factors.specs.Answer.{span_of}
+use Rattle.factors.specs.Code.{run_of, range_of, seen_unit, NameIn, prefix_for}
+use Rattle.factors.specs.declared.UnitArgs.{UnitArgs}
+use Rattle.factors.specs.declared.UnitArgs.TheVariants.{Si, Conversion}
 
 -- ---- a record's arguments
+-- a refusal is the same, of whichever type the answer would have been
+pub same_bad : {A B : Type 0} {q r : Refusal} → ◌≡◌ {A = Told A} (bad q) (bad r) → ◌≡◌ {A = Told B} (bad q) (bad r)
+same_bad {q} {r} h = let e : q ≡ r = cc in ap bad e
+
 -- a span that was given lies in the file
 pub span_good : (n a z : ℕ) {p : Lookup.FileSpan} → good p ≡ span_in n a z → (span_fine n a z ≡ true) × (p ≡ Lookup.file_span a z)
 span_good n a z {p} = go (span_fine n a z)
@@ -51,25 +59,19 @@ span_good n a z {p} = go (span_fine n a z)
     go false h = clash (cc)
 
 -- of a row whose arguments do not lie in the file nothing is read
-pub seen_record_out : {A : Type 0} (k : SeenRecord → Told A) (s : List ℕ) (w : Row) {q : Refusal} → bad q ≡ span_in (length s) w.arg_start w.arg_end → bad (refusal 9 0 0) ≡ onward k (seen_record_of s w)
+pub seen_record_out : {A : Type 0} (k : SeenRecord → Told A) (s : List ℕ) (w : Row) {q : Refusal} → bad q ≡ span_in (length s) w.arg_start w.arg_end → bad q ≡ onward k (seen_record_of s w)
 seen_record_out k s w {q} = go (span_fine (length s) w.arg_start w.arg_end)
   where
-    go : (b : Bool) → bad q ≡ pick b (good (Lookup.file_span w.arg_start w.arg_end)) (bad (refusal 9 0 0)) → bad (refusal 9 0 0) ≡ onward k (pick b (good (seen_record_at s w)) (bad (refusal 9 0 0)))
+    go : (b : Bool) → bad q ≡ pick b (good (Lookup.file_span w.arg_start w.arg_end)) (bad (refusal 9 0 0)) → bad q ≡ onward k (pick b (good (seen_record_at s w)) (bad (refusal 9 0 0)))
     go true h = clash (cc)
-    go false h = refl
-
--- the arguments of a part that was found
-abbrev pub run_of : Told (Option HeaderRow) → Told (Option Span)
-run_of (good none) = good none
-run_of (good (some p)) = good (some (span p.arg_start p.arg_end))
-run_of (bad q) = bad q
+    go false h = same_bad h
 
 -- the arguments of the first part of a kind, by its row and by its part
 first_run : (s : List ℕ) (k : Kind) (ps : List HeaderRow) → run_of (good (first_kind s k ps)) ≡ good (first_unit_part k (map (unit_part_of s) ps))
 first_run s k [] = refl
 first_run s k (p ∷ ps) = go (part_is_kind s k p) (first_kind s k ps) (first_unit_part k (map (unit_part_of s) ps)) (first_run s k ps)
   where
-    go : (b : Bool) (x : Option HeaderRow) (y : Option Span) → run_of (good x) ≡ good y → run_of (good (pick b (some p) x)) ≡ good (pick b (some (span p.arg_start p.arg_end)) y)
+    go : (b : Bool) (x : Found HeaderRow) (y : Option Span) → run_of (good x) ≡ good y → run_of (good (pick b (some p) x)) ≡ good (pick b (Some (span p.arg_start p.arg_end)) y)
     go true x y h = refl
     go false x y h = h
 
@@ -89,18 +91,18 @@ part_run s a z c k h =
 
 module _ (s : List ℕ) (w : Row) {p : Lookup.FileSpan} (given : good p ≡ span_in (length s) w.arg_start w.arg_end) where
   -- the arguments of a record of the kind itself are its own
-  pub self_own : (k : Kind) → same_kind (kind_in s w) k ≡ true → good (some (span p.start p.end)) ≡ onward (self_or k) (seen_record_of s w)
+  pub self_own : (k : Kind) → same_kind (kind_in s w) k ≡ true → good (Some (span p.start p.end)) ≡ onward (self_or k) (seen_record_of s w)
   self_own k e = let (f, g) = span_good (length s) w.arg_start w.arg_end given in rw (g, f, e) refl
 
   -- the arguments of a record of another kind are those of its first part of the kind
-  pub self_part : (k : Kind) {x : Told (Option HeaderRow)} → same_kind (kind_in s w) k ≡ false → x ≡ part_of s p.start p.end w.complex k → run_of x ≡ onward (self_or k) (seen_record_of s w)
-  self_part k e h = let (f, g) = span_good (length s) w.arg_start w.arg_end given in
-      rw (f, e) (ap run_of (rw g at h) ∙ part_run s w.arg_start w.arg_end w.complex k f)
+  pub self_part : (k : Kind) → same_kind (kind_in s w) k ≡ false → run_of (part_of s p.start p.end w.complex k) ≡ onward (self_or k) (seen_record_of s w)
+  self_part k e = let (f, g) = span_good (length s) w.arg_start w.arg_end given in
+      rw (g, f, e) (part_run s w.arg_start w.arg_end w.complex k f)
 
   -- the arguments of a complex measure are those of its first LENGTH_MEASURE_WITH_UNIT part
-  pub measure_part : {x : Told (Option HeaderRow)} → eqb w.complex 1 ≡ true → x ≡ part_of s p.start p.end 1 LengthMeasureWithUnit → run_of x ≡ onward measure_run (seen_record_of s w)
-  measure_part e h = let (f, g) = span_good (length s) w.arg_start w.arg_end given in
-      rw (f, e) (ap run_of (rw g at h) ∙ part_run s w.arg_start w.arg_end 1 LengthMeasureWithUnit f)
+  pub measure_part : eqb w.complex 1 ≡ true → run_of (part_of s p.start p.end 1 LengthMeasureWithUnit) ≡ onward measure_run (seen_record_of s w)
+  measure_part e = let (f, g) = span_good (length s) w.arg_start w.arg_end given in
+      rw (g, f, e) (part_run s w.arg_start w.arg_end 1 LengthMeasureWithUnit f)
 
 -- none of the named kinds is that of a complex record
 named_simple : (k : Kind) → NamedKind k → eqb (rank_of k) 10 ≡ false
@@ -131,7 +133,7 @@ kind_simple s w e = rw e (go (span_fine (length s) w.key_start w.key_end))
     go false = refl
 
 -- a simple measure has its own arguments
-pub measure_own : (s : List ℕ) (w : Row) {p : Lookup.FileSpan} → good p ≡ span_in (length s) w.arg_start w.arg_end → eqb w.complex 1 ≡ false → good (some (span p.start p.end)) ≡ onward measure_run (seen_record_of s w)
+pub measure_own : (s : List ℕ) (w : Row) {p : Lookup.FileSpan} → good p ≡ span_in (length s) w.arg_start w.arg_end → eqb w.complex 1 ≡ false → good (Some (span p.start p.end)) ≡ onward measure_run (seen_record_of s w)
 measure_own s w h e = let (f, g) = span_good (length s) w.arg_start w.arg_end h in rw (g, f, kind_simple s w e) refl
 
 -- ---- where the reader reads up to
@@ -155,7 +157,7 @@ param_end s p e = go (reader_in_file (length s) p e) (param_begun (take e s) e (
     go false r h = refl
 
 -- what is read of a parameter leaves the reader's end as it is
-next_end : {A : Type 0} (f : List ℕ → Answer A) (s : List ℕ) (p e : ℕ) → (next_of f s p e).end ≡ e
+pub next_end : {A : Type 0} (f : List ℕ → Answer A) (s : List ℕ) (p e : ℕ) → (next_of f s p e).end ≡ e
 unfolding next_of
 next_end f s p e = param_end s p e
 
@@ -164,86 +166,87 @@ skip_end : (s : List ℕ) (p e : ℕ) → (skip_of s p e).end ≡ e
 unfolding skip_of
 skip_end s p e = param_end s p e
 
+-- ---- what a reader's answer tells, by its parts
+module _ {A : Type 0} (t : State) where
+  -- its value or refusal
+  told_answer : (r : Result A Fault) → (told_read r t).answer ≡ told_result r
+  told_answer (Ok a) = refl
+  told_answer (Err f) = refl
+
+  -- where the reader then stands
+  told_place : (r : Result A Fault) → (told_read r t).place ≡ t.place
+  told_place (Ok a) = refl
+  told_place (Err f) = refl
+
+  -- up to where it reads
+  told_end : (r : Result A Fault) → (told_read r t).end ≡ t.end
+  told_end (Ok a) = refl
+  told_end (Err f) = refl
+
 -- ---- SI units
--- the bytes of a prefix that was read, or none where it is unreadable
-prefix_told : (s : List ℕ) (n : NextNameCode.NextName) (t : Told Span) → (told_next_name n).answer ≡ t → ToldIn (length s) (SpanIn (length s)) t → named_in s n ≡ name_or [] s t
-prefix_told s (NextNameCode.TheVariants.Name a z to) t h = subst (λ (u : Told Span). ToldIn (length s) (SpanIn (length s)) u → named_in s (NextNameCode.TheVariants.Name a z to) ≡ name_or [] s u) h
-    (λ k. rw (le-leb a z k.0, le-leb z (length s) k.1) refl)
-prefix_told s (NextNameCode.TheVariants.Refused f to) t h = subst (λ (u : Told Span). ToldIn (length s) (SpanIn (length s)) u → [] ≡ name_or [] s u) h (λ k. refl)
+-- a name that was read lies in the file
+pub names_in : (s : List ℕ) (p e : ℕ) (r : Result Span Fault) (t : State) → told_read r t ≡ next_unit_name s p e → NameIn (length s) r
+names_in s p e r t h = go r (sym (told_answer t r) ∙ ap (λ (x : Read Span). x.answer) h)
+  where
+    go : (r : Result Span Fault) → told_result r ≡ (next_unit_name s p e).answer → NameIn (length s) r
+    go (Ok a) k = let P : Told Span → Type 0 = ToldIn (length s) (SpanIn (length s)) in subst P (sym k) (name_in_lem s p e)
+    go (Err f) k = tt
 
--- METRE has the name METRE
-metre_self : is_word (bytes "METRE") (bytes "METRE") ≡ true
-unfolding same_bytes
-metre_self = refl
+module _ (s : List ℕ) (a z : ℕ) (name : List ℕ) (first second : Result Span Fault) (o t u : State) (begins : o ≡ record { place = a; end = z }) (from : told_read first t ≡ next_unit_name s o.place o.end) (two : told_read second u ≡ next_unit_name s t.place t.end) where
+  -- the first name is read from the arguments' start
+  one : told_read first t ≡ next_unit_name s a z
+  one = from ∙ ap (λ (v : State). next_unit_name s v.place v.end) begins
 
--- RADIAN has the name RADIAN
-radian_self : is_word (bytes "RADIAN") (bytes "RADIAN") ≡ true
-unfolding same_bytes
-radian_self = refl
-
--- a unit has a name that was read, or its own where that is unreadable
-unit_told : (s w : List ℕ) → is_word w w ≡ true → (n : NextNameCode.NextName) (t : Told Span) → (told_next_name n).answer ≡ t → ToldIn (length s) (SpanIn (length s)) t → is_named s n w ≡ is_word (name_or w s t) w
-unit_told s w e (NextNameCode.TheVariants.Name a z to) t h = subst (λ (u : Told Span). ToldIn (length s) (SpanIn (length s)) u → is_named s (NextNameCode.TheVariants.Name a z to) w ≡ is_word (name_or w s u) w) h
-    (λ k. rw (le-leb a z k.0, le-leb z (length s) k.1) refl)
-unit_told s w e (NextNameCode.TheVariants.Refused f to) t h = subst (λ (u : Told Span). ToldIn (length s) (SpanIn (length s)) u → true ≡ is_word (name_or w s u) w) h (λ k. sym e)
-
-module _ (s : List ℕ) (a z : ℕ) (first second : NextNameCode.NextName) {p e : ℕ} (one : told_next_name first ≡ next_unit_name s a z) (place : p ≡ (told_next_name first).place) (end : e ≡ (told_next_name first).end) (two : told_next_name second ≡ next_unit_name s p e) where
   -- the second name is read from where the reader stands after the first
-  second_told : told_next_name second ≡ next_unit_name s (next_unit_name s a z).place z
-  second_told =
-      let f : p ≡ (next_unit_name s a z).place = place ∙ ap (λ (x : Read Span). x.place) one in
-      let g : e ≡ z = end ∙ ap (λ (x : Read Span). x.end) one ∙ param_end s a z in
-      two ∙ ap (λ (x : ℕ). next_unit_name s x e) f ∙ ap (λ (x : ℕ). next_unit_name s (next_unit_name s a z).place x) g
+  second_is : told_result second ≡ (next_unit_name s (next_unit_name s a z).place z).answer
+  second_is =
+      let f : t.place ≡ (next_unit_name s a z).place = sym (told_place t first) ∙ ap (λ (x : Read Span). x.place) one in
+      let g : t.end ≡ z = sym (told_end t first) ∙ ap (λ (x : Read Span). x.end) one ∙ param_end s a z in
+      sym (told_answer u second) ∙ ap (λ (x : Read Span). x.answer) two ∙ ap (λ (x : ℕ). (next_unit_name s x t.end).answer) f ∙ ap (λ (x : ℕ). (next_unit_name s (next_unit_name s a z).place x).answer) g
 
-  -- whether the code finds that the unit has the name is whether it has it
-  unit_is : (name : String) → is_word (bytes name) (bytes name) ≡ true → is_named s second (bytes name) ≡ is_word (unit_in name s (span a z)) (bytes name)
-  unit_is name k = unit_told s (bytes name) k second (next_unit_name s (next_unit_name s a z).place z).answer (ap (λ (x : Read Span). x.answer) second_told) (name_in_lem s (next_unit_name s a z).place z)
+  -- a unit of another name has no prefix
+  pub prefix_other : is_word (name_or name s (told_result second)) name ≡ false → None ≡ prefix_for s (span a z) name
+  prefix_other h = let k = ap (λ (x : Told Span). is_word (name_or name s x) name) (sym second_is) ∙ h in rw k refl
 
-  -- the prefix that the code finds is the first parameter's
-  prefix_is : named_in s first ≡ prefix_in s (span a z)
-  prefix_is = prefix_told s first (next_unit_name s a z).answer (ap (λ (x : Read Span). x.answer) one) (name_in_lem s a z)
+  -- a unit of the name has the first parameter for its prefix
+  pub prefix_named : is_word (name_or name s (told_result second)) name ≡ true → Some (name_or [] s (told_result first)) ≡ prefix_for s (span a z) name
+  prefix_named h =
+      let k = ap (λ (x : Told Span). is_word (name_or name s x) name) (sym second_is) ∙ h in
+      rw k (ap (λ (x : Told Span). Some (name_or [] s x)) (sym (told_answer t first) ∙ ap (λ (x : Read Span). x.answer) one))
 
-  -- an SI unit of another name has no factor: "another name no factor"
-  named_other : (name : String) → is_word (bytes name) (bytes name) ≡ true → is_named s second (bytes name) ≡ false → (f : ℕ) → none ≡ factor_if_named name s (span a z) f
-  named_other name k h f = let e = sym (unit_is name k) ∙ h in rw e refl
-
-  -- an SI unit that has the name has the factor f
-  named_is : (name : String) → is_word (bytes name) (bytes name) ≡ true → is_named s second (bytes name) ≡ true → (f : ℕ) → some f ≡ factor_if_named name s (span a z) f
-  named_is name k h f = let e = sym (unit_is name k) ∙ h in rw e refl
-
-  -- an SI length unit: "another name no factor"
-  pub length_other : is_named s second (bytes "METRE") ≡ false → good none ≡ good (si_length s (span a z))
+module _ (s : List ℕ) (r : Span) where
+  -- an SI length unit has the length factor of its prefix
+  pub length_prefix : option_map length_factor_of (prefix_for s r (bytes "METRE")) ≡ si_length s r
   unfolding si_length
-  length_other h = ap good (named_other "METRE" metre_self h _)
+  length_prefix = go (is_word (name_or (bytes "METRE") s (next_unit_name s (next_unit_name s r.start r.stop).place r.stop).answer) (bytes "METRE"))
+    where
+      go : (b : Bool) → option_map length_factor_of (pick b (Some (prefix_in s r)) None) ≡ pick b (Some (length_factor_of (prefix_in s r))) None
+      go true = refl
+      go false = refl
 
-  -- an SI length unit that has the name METRE has the length factor of its prefix
-  pub length_is : is_named s second (bytes "METRE") ≡ true → {v : ℕ} → v ≡ length_factor_of (named_in s first) → good (some v) ≡ good (si_length s (span a z))
-  unfolding si_length
-  length_is h {v} l = ap good (ap some (l ∙ ap length_factor_of prefix_is) ∙ named_is "METRE" metre_self h _)
-
-  -- an SI angle unit: "another name no factor"
-  pub angle_other : is_named s second (bytes "RADIAN") ≡ false → good none ≡ good (si_angle s (span a z))
+  -- an SI angle unit has the factor of its prefix
+  pub angle_prefix : option_map factor_of (prefix_for s r (bytes "RADIAN")) ≡ si_angle s r
   unfolding si_angle
-  angle_other h = ap good (named_other "RADIAN" radian_self h _)
-
-  -- an SI angle unit that has the name RADIAN has the factor of its prefix
-  pub angle_is : is_named s second (bytes "RADIAN") ≡ true → {v : ℕ} → v ≡ factor_of (named_in s first) → good (some v) ≡ good (si_angle s (span a z))
-  unfolding si_angle
-  angle_is h {v} l = ap good (ap some (l ∙ ap factor_of prefix_is) ∙ named_is "RADIAN" radian_self h _)
+  angle_prefix = go (is_word (name_or (bytes "RADIAN") s (next_unit_name s (next_unit_name s r.start r.stop).place r.stop).answer) (bytes "RADIAN"))
+    where
+      go : (b : Bool) → option_map factor_of (pick b (Some (prefix_in s r)) None) ≡ pick b (Some (factor_of (prefix_in s r))) None
+      go true = refl
+      go false = refl
 
 -- ---- conversion units
-module _ (s : List ℕ) (a z : ℕ) where
+module _ (s : List ℕ) (a z : ℕ) (o : State) (begins : o ≡ record { place = a; end = z }) where
   -- a conversion unit whose name cannot be skipped: what refuses it refuses the measure's reference
-  pub ref_refused : {q : Refusal} {p e : ℕ} → reading (bad q) p e ≡ skip_of s a z → bad q ≡ measure_ref s (span a z)
+  pub ref_refused : {q : Refusal} {p e : ℕ} → reading (bad q) p e ≡ skip_of s o.place o.end → bad q ≡ measure_ref s (span a z)
   unfolding measure_ref
-  ref_refused h = rw (← h) refl
+  ref_refused {q} {p} {e} h = let g : reading (bad q) p e ≡ skip_of s a z = h ∙ ap (λ (v : State). skip_of s v.place v.end) begins in rw (← g) refl
 
   -- behind a conversion unit's name stands the measure's reference
-  pub ref_past : {p e : ℕ} {x : Read ℕ} → reading (good tt) p e ≡ skip_of s a z → x ≡ next_of reference_of s p e → x.answer ≡ measure_ref s (span a z)
+  pub ref_past : (u : Unit {0}) (t : State) (r : Result ℕ Fault) (v : State) → told_read (Ok u) t ≡ skip_of s o.place o.end → told_read r v ≡ next_of reference_of s t.place t.end → told_result r ≡ measure_ref s (span a z)
   unfolding measure_ref
-  ref_past {p} {e} h k =
-      let l : e ≡ z = ap (λ (r : Read (Unit {0})). r.end) h ∙ skip_end s a z in
-      rw (← h) (ap (λ (r : Read ℕ). r.answer) (k ∙ ap (λ (y : ℕ). next_of reference_of s p y) l))
+  ref_past u t r v h k =
+      let g : told_read (Ok u) t ≡ skip_of s a z = h ∙ ap (λ (v : State). skip_of s v.place v.end) begins in
+      let l : t.end ≡ z = ap (λ (r : Read (Unit {0})). r.end) g ∙ skip_end s a z in
+      rw (← g) (sym (told_answer v r) ∙ ap (λ (r : Read ℕ). r.answer) (k ∙ ap (λ (y : ℕ). next_of reference_of s t.place y) l))
 
 module _ (s : List ℕ) (left start : ℕ) (r : Span) where
   -- a conversion unit where none is left is 15
@@ -270,86 +273,177 @@ module _ {A : Type 0} (si : Span → Told A) (conversion : SeenRecord → Span �
   unit_refused {q} (bad r) h = let e : q ≡ r = cc in ap bad e
 
   -- of an SI unit its arguments decide
-  unit_si : {r : Span} {y : Told A} (x : Told SeenRecord) → good (some r) ≡ onward (self_or SiUnit) x → y ≡ si r → y ≡ By x
+  unit_si : {r : Span} {y : Told A} (x : Told SeenRecord) → good (Some r) ≡ onward (self_or SiUnit) x → y ≡ si r → y ≡ By x
   unit_si (good t) h e = rw (← h) e
   unit_si (bad r) h e = clash (cc)
 
   -- a unit with neither an SI part nor a conversion gives what stands for neither
-  unit_neither : (x : Told SeenRecord) → good none ≡ onward (self_or SiUnit) x → good none ≡ onward (self_or ConversionBasedUnit) x → good neither ≡ By x
+  unit_neither : (x : Told SeenRecord) → good None ≡ onward (self_or SiUnit) x → good None ≡ onward (self_or ConversionBasedUnit) x → good neither ≡ By x
   unit_neither (good t) h k = rw (← h, ← k) refl
   unit_neither (bad r) h k = clash (cc)
 
   -- a unit with a fault that is met only when a conversion part is sought is refused
-  unit_late : {q : Refusal} (x : Told SeenRecord) → good none ≡ onward (self_or SiUnit) x → bad q ≡ onward (self_or ConversionBasedUnit) x → bad q ≡ By x
+  unit_late : {q : Refusal} (x : Told SeenRecord) → good None ≡ onward (self_or SiUnit) x → bad q ≡ onward (self_or ConversionBasedUnit) x → bad q ≡ By x
   unit_late (good t) h k = rw (← h, ← k) refl
   unit_late (bad r) h k = clash (cc)
 
-  -- of a conversion unit that has no SI part its arguments decide
-  unit_conversion : {r : Span} {y : Told A} (s : List ℕ) (w : Row) → good none ≡ onward (self_or SiUnit) (seen_record_of s w) → good (some r) ≡ onward (self_or ConversionBasedUnit) (seen_record_of s w)
-      → y ≡ conversion (seen_record_at s w) r → y ≡ By (seen_record_of s w)
-  unit_conversion {r} {y} s w h k e = go (span_fine (length s) w.arg_start w.arg_end) h k
+-- ---- what a record is as a unit
+-- a unit with a fault in its parts is refused
+pub seen_refused : {q : Refusal} (x : Told SeenRecord) → bad q ≡ onward (self_or SiUnit) x → bad q ≡ onward seen_unit x
+unfolding seen_unit
+seen_refused x h = unit_refused (λ r. good (Some (Si (range_of r)))) (λ t r. good (Some (Conversion (range_of r)))) None x h
+
+-- a record that has an SI part is an SI unit
+pub seen_si : (r : Range) (x : Told SeenRecord) → good (Some (span_of r)) ≡ onward (self_or SiUnit) x → good (Some (Si r)) ≡ onward seen_unit x
+unfolding seen_unit
+seen_si r x h = unit_si (λ r. good (Some (Si (range_of r)))) (λ t r. good (Some (Conversion (range_of r)))) None x h refl
+
+-- a unit with a fault that is met only when a conversion part is sought is refused
+pub seen_late : {q : Refusal} (x : Told SeenRecord) → good None ≡ onward (self_or SiUnit) x → bad q ≡ onward (self_or ConversionBasedUnit) x → bad q ≡ onward seen_unit x
+unfolding seen_unit
+seen_late x h k = unit_late (λ r. good (Some (Si (range_of r)))) (λ t r. good (Some (Conversion (range_of r)))) None x h k
+
+-- a record that has no SI part is a conversion unit where it has that part
+pub seen_other : (o : Option Range) (x : Told SeenRecord) → good None ≡ onward (self_or SiUnit) x → good (option_map span_of o) ≡ onward (self_or ConversionBasedUnit) x → good (option_map Conversion o) ≡ onward seen_unit x
+unfolding seen_unit
+seen_other None x h k = unit_neither (λ r. good (Some (Si (range_of r)))) (λ t r. good (Some (Conversion (range_of r)))) None x h k
+seen_other (Some r) (good t) h k = rw (← h, ← k) refl
+seen_other (Some r) (bad q) h k = clash (cc)
+
+module _ {A : Type 0} (si : Span → Told A) (conversion : SeenRecord → Span → Told A) (neither : A) where
+  -- a unit that is refused is refused, whatever is made of one
+  by_refused : {q : Refusal} (x : Told SeenRecord) → bad q ≡ onward seen_unit x → bad q ≡ By si conversion neither x
+  unfolding seen_unit
+  by_refused (bad r) h = same_bad h
+  by_refused {q} (good t) h = go (self_or SiUnit t) (self_or ConversionBasedUnit t) h
     where
-      go : (b : Bool) → good none ≡ onward (self_or SiUnit) (pick b (good (seen_record_at s w)) (bad (refusal 9 0 0)))
-          → good (some r) ≡ onward (self_or ConversionBasedUnit) (pick b (good (seen_record_at s w)) (bad (refusal 9 0 0)))
-          → y ≡ By (pick b (good (seen_record_at s w)) (bad (refusal 9 0 0)))
-      go true l m = rw (← l, ← m) e
-      go false l m = clash (cc)
+      go : (a b : Told (Option Span)) → bad q ≡ onward (option_by (onward (option_by (good None) (λ r. good (Some (Conversion (range_of r))))) b) (λ r. good (Some (Si (range_of r))))) a → bad q ≡ onward (option_by (onward (option_by (good neither) (conversion t)) b) si) a
+      go (bad r) b k = same_bad k
+      go (good (Some r)) b k = clash (cc)
+      go (good None) (bad r) k = same_bad k
+      go (good None) (good None) k = clash (cc)
+      go (good None) (good (Some r)) k = clash (cc)
+
+  -- of a record that is no unit what stands for neither is made
+  by_neither : (x : Told SeenRecord) → good None ≡ onward seen_unit x → good neither ≡ By si conversion neither x
+  unfolding seen_unit
+  by_neither (bad r) h = clash (cc)
+  by_neither (good t) h = go (self_or SiUnit t) (self_or ConversionBasedUnit t) h
+    where
+      go : (a b : Told (Option Span)) → good None ≡ onward (option_by (onward (option_by (good None) (λ r. good (Some (Conversion (range_of r))))) b) (λ r. good (Some (Si (range_of r))))) a → good neither ≡ onward (option_by (onward (option_by (good neither) (conversion t)) b) si) a
+      go (bad r) b k = clash (cc)
+      go (good (Some r)) b k = clash (cc)
+      go (good None) (bad r) k = clash (cc)
+      go (good None) (good None) k = refl
+      go (good None) (good (Some r)) k = clash (cc)
+
+  -- of an SI unit its arguments decide
+  by_si : (r : Range) {y : Told A} (x : Told SeenRecord) → good (Some (Si r)) ≡ onward seen_unit x → y ≡ si (span_of r) → y ≡ By si conversion neither x
+  unfolding seen_unit
+  by_si r (bad q) h e = clash (cc)
+  by_si r {y} (good t) h e = go (self_or SiUnit t) (self_or ConversionBasedUnit t) h
+    where
+      go : (a b : Told (Option Span)) → good (Some (Si r)) ≡ onward (option_by (onward (option_by (good None) (λ r. good (Some (Conversion (range_of r))))) b) (λ r. good (Some (Si (range_of r))))) a → y ≡ onward (option_by (onward (option_by (good neither) (conversion t)) b) si) a
+      go (bad q) b k = clash (cc)
+      go (good (Some p)) b k = let g : r ≡ range_of p = cc in e ∙ ap (λ (v : Range). si (span_of v)) g
+      go (good None) (bad q) k = clash (cc)
+      go (good None) (good None) k = clash (cc)
+      go (good None) (good (Some p)) k = clash (cc)
+
+  -- of a conversion unit its arguments decide
+  by_conversion : (r : Range) {y : Told A} (s : List ℕ) (w : Row) → good (Some (Conversion r)) ≡ onward seen_unit (seen_record_of s w) → y ≡ conversion (seen_record_at s w) (span_of r) → y ≡ By si conversion neither (seen_record_of s w)
+  unfolding seen_unit
+  by_conversion r {y} s w h e = whole (span_fine (length s) w.arg_start w.arg_end) h
+    where
+      t : SeenRecord
+      t = seen_record_at s w
+
+      go : (a b : Told (Option Span)) → good (Some (Conversion r)) ≡ onward (option_by (onward (option_by (good None) (λ r. good (Some (Conversion (range_of r))))) b) (λ r. good (Some (Si (range_of r))))) a → y ≡ onward (option_by (onward (option_by (good neither) (conversion t)) b) si) a
+      go (bad q) b k = clash (cc)
+      go (good (Some p)) b k = clash (cc)
+      go (good None) (bad q) k = clash (cc)
+      go (good None) (good None) k = clash (cc)
+      go (good None) (good (Some p)) k = let g : r ≡ range_of p = cc in e ∙ ap (λ (v : Range). conversion t (span_of v)) g
+
+      whole : (b : Bool) → good (Some (Conversion r)) ≡ onward seen_unit (pick b (good t) (bad (refusal 9 0 0))) → y ≡ By si conversion neither (pick b (good t) (bad (refusal 9 0 0)))
+      whole true k = go (self_or SiUnit t) (self_or ConversionBasedUnit t) k
+      whole false k = clash (cc)
 
 -- ---- a length unit
-module _ (s : List ℕ) (left : ℕ) where
-  -- a length unit with a fault in its parts is refused
-  pub link_refused : {q : Refusal} (x : Told SeenRecord) → bad q ≡ onward (self_or SiUnit) x → bad q ≡ onward (link_of s left) x
-  unfolding link_of
-  link_refused x h = unit_refused (λ r. good (known (si_length s r))) (λ t. conversion_of s left t.run.start) (known none) x h
+module _ (s : List ℕ) (find : ℕ → Told (Option SeenRecord)) where
+  -- what a measure gives to which a unit leads, where so many conversion units are left
+  further : ℕ → ℕ → Told (Option ℕ)
+  further zero i = good None
+  further (suc n) i = measure_in s find (λ b. length_of s find n b) i
 
-  -- an SI length unit has its factor
-  pub link_si : {r : Span} {y : Told (Option ℕ)} (x : Told SeenRecord) → good (some r) ≡ onward (self_or SiUnit) x → y ≡ good (si_length s r) → good_by known y ≡ onward (link_of s left) x
-  unfolding link_of
-  link_si x h e = unit_si (λ r. good (known (si_length s r))) (λ t. conversion_of s left t.run.start) (known none) x h (ap (good_by known) e)
+  -- a length unit's factor, by its link of the chain
+  by_link : (left : ℕ) (x : Told SeenRecord) {y : Told Chain} → y ≡ onward (link_of s left) x → onward (chained (further left)) y ≡ onward (length_of s find left) x
+  unfolding length_of further
+  by_link zero (good t) h = ap (onward (chained (further zero))) h
+  by_link zero (bad q) h = ap (onward (chained (further zero))) h
+  by_link (suc n) (good t) h = ap (onward (chained (further (suc n)))) h
+  by_link (suc n) (bad q) h = ap (onward (chained (further (suc n)))) h
 
-  -- a length unit with neither an SI part nor a conversion has no factor
-  pub link_neither : (x : Told SeenRecord) → good none ≡ onward (self_or SiUnit) x → good none ≡ onward (self_or ConversionBasedUnit) x → good (known none) ≡ onward (link_of s left) x
-  unfolding link_of
-  link_neither x h k = unit_neither (λ r. good (known (si_length s r))) (λ t. conversion_of s left t.run.start) (known none) x h k
+  module _ (left : ℕ) where
+    -- a length unit with a fault in its parts is refused
+    pub length_refused : {q : Refusal} (x : Told SeenRecord) → bad q ≡ onward seen_unit x → bad q ≡ onward (length_of s find left) x
+    unfolding link_of
+    length_refused x h = by_link left x (by_refused (λ r. good (known (si_length s r))) (λ t. conversion_of s left t.run.start) (known None) x h)
 
-  -- a length unit with a fault that is met only when a conversion part is sought is refused
-  pub link_late : {q : Refusal} (x : Told SeenRecord) → good none ≡ onward (self_or SiUnit) x → bad q ≡ onward (self_or ConversionBasedUnit) x → bad q ≡ onward (link_of s left) x
-  unfolding link_of
-  link_late x h k = unit_late (λ r. good (known (si_length s r))) (λ t. conversion_of s left t.run.start) (known none) x h k
+    -- a length unit with neither an SI part nor a conversion has no factor
+    pub length_neither : (x : Told SeenRecord) → good None ≡ onward seen_unit x → good None ≡ onward (length_of s find left) x
+    unfolding link_of
+    length_neither x h = by_link left x (by_neither (λ r. good (known (si_length s r))) (λ t. conversion_of s left t.run.start) (known None) x h)
 
-  -- a conversion unit of length leads to its measure
-  pub link_conversion : {r : Span} {y : Told Chain} (w : Row) → good none ≡ onward (self_or SiUnit) (seen_record_of s w) → good (some r) ≡ onward (self_or ConversionBasedUnit) (seen_record_of s w)
-      → y ≡ conversion_of s left w.arg_start r → y ≡ onward (link_of s left) (seen_record_of s w)
-  unfolding link_of
-  link_conversion w h k e = unit_conversion (λ r. good (known (si_length s r))) (λ t. conversion_of s left t.run.start) (known none) s w h k e
+    -- an SI length unit has its factor
+    pub length_si : (r : Range) {f : Option ℕ} (x : Told SeenRecord) → good (Some (Si r)) ≡ onward seen_unit x → f ≡ si_length s (span_of r) → good f ≡ onward (length_of s find left) x
+    unfolding link_of
+    length_si r x h e = by_link left x (by_si (λ r. good (known (si_length s r))) (λ t. conversion_of s left t.run.start) (known None) r x h (ap (λ (o : Option ℕ). good (known o)) e))
+
+    module _ (r : Range) (w : Row) (h : good (Some (Conversion r)) ≡ onward seen_unit (seen_record_of s w)) where
+      -- a conversion unit of length, by its arguments
+      converted : {y : Told Chain} → y ≡ conversion_of s left w.arg_start (span_of r) → onward (chained (further left)) y ≡ onward (length_of s find left) (seen_record_of s w)
+      unfolding link_of
+      converted e = by_link left (seen_record_of s w) (by_conversion (λ r. good (known (si_length s r))) (λ t. conversion_of s left t.run.start) (known None) r s w h e)
+
+      -- a conversion unit where none is left is 15
+      pub length_deep : left ≡ 0 → bad (refusal 15 0 w.arg_start) ≡ onward (length_of s find left) (seen_record_of s w)
+      length_deep e = converted (conversion_deep s left w.arg_start (span_of r) e)
+
+      -- a conversion unit whose measure's reference is refused, where one is left, is refused
+      pub length_unnamed : {q : Refusal} → eqb left 0 ≡ false → bad q ≡ measure_ref s (span_of r) → bad q ≡ onward (length_of s find left) (seen_record_of s w)
+      length_unnamed e k = converted (conversion_refused s left w.arg_start (span_of r) e k)
+
+      -- a conversion unit leads to a measure, and has the factor that this gives
+      pub length_leads : {i : ℕ} → eqb left 0 ≡ false → good i ≡ measure_ref s (span_of r) → measure_in s find (length_of s find (left - 1)) i ≡ onward (length_of s find left) (seen_record_of s w)
+      unfolding further
+      length_leads {i} e k = go left e (converted (conversion_leads s left w.arg_start (span_of r) e k))
+        where
+          go : (n : ℕ) → eqb n 0 ≡ false → {x : Told (Option ℕ)} → further n i ≡ x → measure_in s find (length_of s find (n - 1)) i ≡ x
+          go zero e l = clash (cc)
+          go (suc n) e l = let j : suc n - 1 ≡ n = omega arith in rw j l
 
 -- ---- an angle unit
 module _ (s : List ℕ) (find : ℕ → Told (Option SeenRecord)) where
   -- an angle unit with a fault in its parts is refused
-  pub angle_refused : {q : Refusal} (x : Told SeenRecord) → bad q ≡ onward (self_or SiUnit) x → bad q ≡ onward (angle_of s find) x
+  pub angle_refused : {q : Refusal} (x : Told SeenRecord) → bad q ≡ onward seen_unit x → bad q ≡ onward (angle_of s find) x
   unfolding angle_of
-  angle_refused x h = unit_refused (λ r. good (si_angle s r)) (λ t r. onward (angle_number s find) (measure_ref s r)) none x h
-
-  -- an SI angle unit has its factor
-  pub angle_si : {r : Span} {y : Told (Option ℕ)} (x : Told SeenRecord) → good (some r) ≡ onward (self_or SiUnit) x → y ≡ good (si_angle s r) → y ≡ onward (angle_of s find) x
-  unfolding angle_of
-  angle_si x h e = unit_si (λ r. good (si_angle s r)) (λ t r. onward (angle_number s find) (measure_ref s r)) none x h e
+  angle_refused x h = by_refused (λ r. good (si_angle s r)) (λ t r. onward (angle_number s find) (measure_ref s r)) None x h
 
   -- an angle unit with neither an SI part nor a conversion has no factor
-  pub angle_neither : (x : Told SeenRecord) → good none ≡ onward (self_or SiUnit) x → good none ≡ onward (self_or ConversionBasedUnit) x → good none ≡ onward (angle_of s find) x
+  pub angle_neither : (x : Told SeenRecord) → good None ≡ onward seen_unit x → good None ≡ onward (angle_of s find) x
   unfolding angle_of
-  angle_neither x h k = unit_neither (λ r. good (si_angle s r)) (λ t r. onward (angle_number s find) (measure_ref s r)) none x h k
+  angle_neither x h = by_neither (λ r. good (si_angle s r)) (λ t r. onward (angle_number s find) (measure_ref s r)) None x h
 
-  -- an angle unit with a fault that is met only when a conversion part is sought is refused
-  pub angle_late : {q : Refusal} (x : Told SeenRecord) → good none ≡ onward (self_or SiUnit) x → bad q ≡ onward (self_or ConversionBasedUnit) x → bad q ≡ onward (angle_of s find) x
+  -- an SI angle unit has its factor
+  pub angle_si : (r : Range) {f : Option ℕ} (x : Told SeenRecord) → good (Some (Si r)) ≡ onward seen_unit x → f ≡ si_angle s (span_of r) → good f ≡ onward (angle_of s find) x
   unfolding angle_of
-  angle_late x h k = unit_late (λ r. good (si_angle s r)) (λ t r. onward (angle_number s find) (measure_ref s r)) none x h k
+  angle_si r x h e = by_si (λ r. good (si_angle s r)) (λ t r. onward (angle_number s find) (measure_ref s r)) None r x h (ap good e)
 
   -- a conversion unit of angle has the measure's number
-  pub angle_conversion : {r : Span} {y : Told (Option ℕ)} (w : Row) → good none ≡ onward (self_or SiUnit) (seen_record_of s w) → good (some r) ≡ onward (self_or ConversionBasedUnit) (seen_record_of s w)
-      → y ≡ onward (angle_number s find) (measure_ref s r) → y ≡ onward (angle_of s find) (seen_record_of s w)
+  pub angle_conversion : (r : Range) {y : Told (Option ℕ)} (w : Row) → good (Some (Conversion r)) ≡ onward seen_unit (seen_record_of s w) → y ≡ onward (angle_number s find) (measure_ref s (span_of r)) → y ≡ onward (angle_of s find) (seen_record_of s w)
   unfolding angle_of
-  angle_conversion w h k e = unit_conversion (λ r. good (si_angle s r)) (λ t r. onward (angle_number s find) (measure_ref s r)) none s w h k e
+  angle_conversion r w h e = by_conversion (λ r. good (si_angle s r)) (λ t r. onward (angle_number s find) (measure_ref s r)) None r s w h e
 
 -- ---- the chain of conversion units
 -- a length unit on a chain on which no conversion unit is left leads to no measure
@@ -358,21 +452,17 @@ unfolding link_of
 link_ends s (bad r) h = clash (cc)
 link_ends s {i} (good t) h = go (self_or SiUnit t) (self_or ConversionBasedUnit t) h
   where
-    go : (x y : Told (Option Span)) → good (leads i) ≡ onward (option_by (onward (option_by (good (known none)) (conversion_of s 0 t.run.start)) y) (λ r. good (known (si_length s r)))) x → ⊥
+    go : (x y : Told (Option Span)) → good (leads i) ≡ onward (option_by (onward (option_by (good (known None)) (conversion_of s 0 t.run.start)) y) (λ r. good (known (si_length s r)))) x → ⊥
     go (bad q) y k = clash (cc)
-    go (good (some r)) y k = clash (cc)
-    go (good none) (bad q) k = clash (cc)
-    go (good none) (good none) k = clash (cc)
-    go (good none) (good (some r)) k = clash (cc)
+    go (good (Some r)) y k = clash (cc)
+    go (good None) (bad q) k = clash (cc)
+    go (good None) (good None) k = clash (cc)
+    go (good None) (good (Some r)) k = clash (cc)
 
 -- a factor that is known goes on unchanged along the chain
 known_on : (k : ℕ → Told (Option ℕ)) (x : Told (Option ℕ)) (y : Told Chain) → good_by known x ≡ y → x ≡ onward (chained k) y
 known_on k (good f) y h = subst (λ (u : Told Chain). good f ≡ onward (chained k) u) h refl
 known_on k (bad q) y h = subst (λ (u : Told Chain). bad q ≡ onward (chained k) u) h refl
-
--- a refusal is the same, of whichever type the answer would have been
-pub same_bad : {A B : Type 0} {q r : Refusal} → ◌≡◌ {A = Told A} (bad q) (bad r) → ◌≡◌ {A = Told B} (bad q) (bad r)
-same_bad {q} {r} h = let e : q ≡ r = cc in ap bad e
 
 module _ (s : List ℕ) (find : ℕ → Told (Option SeenRecord)) where
   -- a length unit whose factor is known has it at the chain's end
@@ -380,7 +470,7 @@ module _ (s : List ℕ) (find : ℕ → Told (Option SeenRecord)) where
   unfolding length_of
   chain_known left (bad r) (good f) h = clash (cc)
   chain_known left (bad r) (bad q) h = same_bad h
-  chain_known zero (good t) x h = known_on (λ i. good none) x (link_of s zero t) h
+  chain_known zero (good t) x h = known_on (λ i. good None) x (link_of s zero t) h
   chain_known (suc n) (good t) x h = known_on (measure_in s find (λ b. length_of s find n b)) x (link_of s (suc n) t) h
 
   -- a length unit that leads to a measure has the factor that the measure gives
@@ -398,99 +488,139 @@ chain_left s (suc n) t h = omega arith
 -- ---- records by their ids
 module _ (s rows slots : List ℕ) (ids : Ids) (i : ℕ) where
   -- where no row has the id there is no record
-  pub find_none : none ≡ row_found rows (searched rows slots ids i) → find_of s (row_for rows slots ids) i ≡ good none
+  pub find_none : None ≡ row_found rows (searched rows slots ids i) → find_of s (row_for rows slots ids) i ≡ good None
   unfolding find_of
   find_none h = rw (← h) refl
 
   -- where a row has the id the record is that row's
-  pub find_row : {w : Row} → some w ≡ row_found rows (searched rows slots ids i) → find_of s (row_for rows slots ids) i ≡ good_by some (seen_record_of s w)
+  pub find_row : {w : Row} → Some w ≡ row_found rows (searched rows slots ids i) → find_of s (row_for rows slots ids) i ≡ good_by Some (seen_record_of s w)
   unfolding find_of
   find_row h = rw (← h) refl
 
 -- ---- measures
 module _ (s : List ℕ) (find : ℕ → Told (Option SeenRecord)) (k : SeenRecord → Told (Option ℕ)) (i : ℕ) where
   -- a measure's record: "a missing record [..] gives no factor"
-  pub measure_missing : find i ≡ good none → good none ≡ measure_in s find k i
+  pub measure_missing : find i ≡ good None → good None ≡ measure_in s find k i
   unfolding measure_in
   measure_missing h = rw h refl
 
   -- a measure with a fault in its parts is refused
-  pub measure_refused : (t : Told SeenRecord) {q : Refusal} → find i ≡ good_by some t → bad q ≡ onward measure_run t → bad q ≡ measure_in s find k i
+  pub measure_refused : (t : Told SeenRecord) {q : Refusal} → find i ≡ good_by Some t → bad q ≡ onward measure_run t → bad q ≡ measure_in s find k i
   unfolding measure_in
   measure_refused (good t) h e = rw (h, ← e) refl
   measure_refused (bad r) h e = rw h (same_bad e)
 
   -- a measure without arguments: "nor does a complex length measure lacking a LENGTH_MEASURE_WITH_UNIT part"
-  pub measure_none : (t : Told SeenRecord) → find i ≡ good_by some t → good none ≡ onward measure_run t → good none ≡ measure_in s find k i
+  pub measure_none : (t : Told SeenRecord) → find i ≡ good_by Some t → good None ≡ onward measure_run t → good None ≡ measure_in s find k i
   unfolding measure_in
   measure_none (good t) h e = rw (h, ← e) refl
   measure_none (bad r) h e = clash (cc)
 
   -- a measure that has arguments gives what these say
-  pub measure_some : (t : Told SeenRecord) {r : Span} → find i ≡ good_by some t → good (some r) ≡ onward measure_run t → measure_in s find k i ≡ measure_at s find k r
+  pub measure_some : (t : Told SeenRecord) {r : Span} → find i ≡ good_by Some t → good (Some r) ≡ onward measure_run t → measure_in s find k i ≡ measure_at s find k r
   unfolding measure_in
   measure_some (good t) h e = rw (h, ← e) refl
   measure_some (bad r) h e = clash (cc)
 
 -- an unreadable number gives no factor or refuses, whatever would follow
-unread_or : (k : ℕ → Told (Option ℕ)) (x : Told ℕ) {q : Refusal} → x ≡ bad q → unread_of x ≡ read_or x k
-unread_or k x h = rw h refl
+number_unread : (k : ℕ → Told (Option ℕ)) (x : Told ℕ) {y : Told (Option ℕ)} → y ≡ number_or_none x → ((v : ℕ) → y ≡ good (Some v) → ⊥) → y ≡ read_or x k
+number_unread k (good v) h n = absurd (n v h)
+number_unread k (bad q) h n = h
 
-module _ (s : List ℕ) (find : ℕ → Told (Option SeenRecord)) (k : SeenRecord → Told (Option ℕ)) (a z : ℕ) where
-  -- a measure with an unreadable number has no factor, or 13 refuses
-  pub at_unread : {y : Read ℕ} {q : Refusal} → y ≡ next_of measure_of s a z → y.answer ≡ bad q → unread_of y.answer ≡ measure_at s find k (span a z)
-  at_unread {y} h e = subst (λ (u : Read ℕ). unread_of y.answer ≡ read_or u.answer (λ v. base_of s find k v u.place z)) h (unread_or (λ v. base_of s find k v y.place z) y.answer e)
+-- a number that reads is what follows it
+number_read : (k : ℕ → Told (Option ℕ)) (x : Told ℕ) (v : ℕ) → good (Some v) ≡ number_or_none x → read_or x k ≡ k v
+number_read k (good w) v h = let e : v ≡ w = cc in ap k (sym e)
+number_read k (bad q) v h = go (eqb q.number 13) h
+  where
+    go : (b : Bool) → good (Some v) ≡ pick b (bad q) (good None) → pick b (bad q) (good None) ≡ k v
+    go true l = clash (cc)
+    go false l = clash (cc)
+
+-- a refusal other than 13 leaves a number unread
+pub fault_unread : (f : Fault) → ((p : ℕ) → f ≡ OutsideClass p → ⊥) → unread_of (bad (told f)) ≡ good None
+fault_unread NoMarker h = refl
+fault_unread TooLong h = refl
+fault_unread (OpenComment p) h = refl
+fault_unread (OpenString p) h = refl
+fault_unread (NoEnd p) h = refl
+fault_unread (OpenParen p) h = refl
+fault_unread (BadRecord r p) h = refl
+fault_unread (NoRow p) h = refl
+fault_unread OutOfFile h = refl
+fault_unread (NoParameter p) h = refl
+fault_unread (OpenLiteral p) h = refl
+fault_unread (WrongType p) h = refl
+fault_unread (OutsideClass p) h = absurd (h p refl)
+fault_unread NoRecord h = refl
+fault_unread (TooDeep p) h = refl
+fault_unread (TooShort p) h = refl
+
+-- a refusal with 13 refuses
+pub fault_outside : (f : Fault) (p : ℕ) → f ≡ OutsideClass p → bad (told f) ≡ unread_of (bad (told f))
+fault_outside f p h = rw h refl
+
+module _ (s : List ℕ) (find : ℕ → Told (Option SeenRecord)) (k : SeenRecord → Told (Option ℕ)) (r : Span) (o : State) (begins : o ≡ record { place = r.start; end = r.stop }) where
+  -- the number that is read first in a measure's arguments
+  first_number : Read ℕ
+  first_number = next_of measure_of s r.start r.stop
+
+  -- a reader at the arguments' start reads that number
+  numbered : next_of measure_of s o.place o.end ≡ first_number
+  unfolding first_number
+  numbered = ap (λ (v : State). next_of measure_of s v.place v.end) begins
+
+  -- a measure whose number is refused is refused
+  pub at_refused : {q : Refusal} → bad q ≡ number_or_none (next_of measure_of s o.place o.end).answer → bad q ≡ measure_at s find k r
+  unfolding first_number
+  at_refused h = number_unread _ first_number.answer (h ∙ ap (λ (x : Read ℕ). number_or_none x.answer) numbered) (λ v e. clash (cc))
+
+  -- a measure without a number has no factor
+  pub at_unread : good None ≡ number_or_none (next_of measure_of s o.place o.end).answer → good None ≡ measure_at s find k r
+  unfolding first_number
+  at_unread h = number_unread _ first_number.answer (h ∙ ap (λ (x : Read ℕ). number_or_none x.answer) numbered) (λ v e. clash (cc))
 
   -- a measure whose number reads gives what its base does
-  pub at_read : {v p e : ℕ} → reading (good v) p e ≡ next_of measure_of s a z → measure_at s find k (span a z) ≡ base_of s find k v p e
-  at_read {v} {p} {e} h =
-      let l : e ≡ z = ap (λ (r : Read ℕ). r.end) h ∙ next_end measure_of s a z in
-      rw (← h, l) refl
+  pub at_read : (v : ℕ) (t : State) → good (Some v) ≡ number_or_none (next_of measure_of s o.place o.end).answer → (t.place ≡ (next_of measure_of s o.place o.end).place) × (t.end ≡ o.end) → base_of s find k v t.place t.end ≡ measure_at s find k r
+  unfolding first_number
+  at_read v t h (f, g) =
+      let l : t.place ≡ first_number.place = f ∙ ap (λ (x : Read ℕ). x.place) numbered in
+      let m : t.end ≡ r.stop = g ∙ ap (λ (x : State). x.end) begins in
+      ap (λ (y : ℕ). base_of s find k v y t.end) l ∙ ap (λ (y : ℕ). base_of s find k v first_number.place y) m
+      ∙ sym (number_read _ first_number.answer v (h ∙ ap (λ (x : Read ℕ). number_or_none x.answer) numbered))
 
 module _ (s : List ℕ) (find : ℕ → Told (Option SeenRecord)) (k : SeenRecord → Told (Option ℕ)) (v p e : ℕ) where
   -- a measure with "an unreadable [..] base" has no factor
-  pub base_unread : {q : Refusal} {o f : ℕ} → reading (bad q) o f ≡ next_of reference_of s p e → good none ≡ base_of s find k v p e
+  pub base_unread : {q : Refusal} {o f : ℕ} → reading (bad q) o f ≡ next_of reference_of s p e → good None ≡ base_of s find k v p e
   base_unread h = rw (← h) refl
 
   -- a measure whose base has no record has no factor
-  pub base_missing : {b o f : ℕ} → reading (good b) o f ≡ next_of reference_of s p e → find b ≡ good none → good none ≡ base_of s find k v p e
+  pub base_missing : {b o f : ℕ} → reading (good b) o f ≡ next_of reference_of s p e → find b ≡ good None → good None ≡ base_of s find k v p e
   base_missing h g = rw (← h, g) refl
 
   -- a measure whose base has a record: "value times base factor"
-  pub base_row : {b o f : ℕ} (t : Told SeenRecord) {x : Told (Option ℕ)} → reading (good b) o f ≡ next_of reference_of s p e → find b ≡ good_by some t → x ≡ onward k t → scaled_by v x ≡ base_of s find k v p e
+  pub base_row : {b o f : ℕ} (t : Told SeenRecord) {x : Told (Option ℕ)} → reading (good b) o f ≡ next_of reference_of s p e → find b ≡ good_by Some t → x ≡ onward k t → scaled_by v x ≡ base_of s find k v p e
   base_row (good t) h g l = rw (← h, g, ← l) refl
   base_row (bad r) h g l = rw (← h, g, l) refl
 
 -- ---- angles
 module _ (s : List ℕ) (find : ℕ → Told (Option SeenRecord)) (i : ℕ) where
   -- an angle's measure: "a missing record [..] gives no factor"
-  pub number_missing : find i ≡ good none → good none ≡ angle_number s find i
+  pub number_missing : find i ≡ good None → good None ≡ angle_number s find i
   unfolding angle_number
   number_missing h = rw h refl
 
-  -- an angle's measure whose arguments do not lie in the file is 9
-  pub number_out : (w : Row) {q : Refusal} → find i ≡ good_by some (seen_record_of s w) → bad q ≡ span_in (length s) w.arg_start w.arg_end → bad (refusal 9 0 0) ≡ angle_number s find i
+  -- an angle's measure whose arguments do not lie in the file is refused
+  pub number_out : (w : Row) {q : Refusal} → find i ≡ good_by Some (seen_record_of s w) → bad q ≡ span_in (length s) w.arg_start w.arg_end → bad q ≡ angle_number s find i
   unfolding angle_number
-  number_out w h e = rw h (go (seen_record_of s w) (seen_record_out (λ t. good t) s w e))
+  number_out w {q} h e = rw h (go (seen_record_of s w) (seen_record_out (λ t. good t) s w e))
     where
-      go : (x : Told SeenRecord) → bad (refusal 9 0 0) ≡ onward (λ t. good t) x → bad (refusal 9 0 0) ≡ onward (option_by (good none) (λ t. read_or (next_of measure_of s t.run.start t.run.stop).answer (λ v. good (some v)))) (good_by some x)
+      go : (x : Told SeenRecord) → bad q ≡ onward (λ t. good t) x → bad q ≡ onward (option_by (good None) (λ t. number_or_none (next_of measure_of s t.run.start t.run.stop).answer)) (good_by Some x)
       go (good t) l = clash (cc)
       go (bad r) l = same_bad l
 
-  -- an angle's measure gives what its number does
-  number_some : (w : Row) {p : Lookup.FileSpan} {y : Read ℕ} → find i ≡ good_by some (seen_record_of s w) → good p ≡ span_in (length s) w.arg_start w.arg_end → y ≡ next_of measure_of s p.start p.end
-      → angle_number s find i ≡ read_or y.answer (λ v. good (some v))
-  unfolding angle_number
-  number_some w h e g =
-      let (f, l) = span_good (length s) w.arg_start w.arg_end e in
-      rw (h, f) (ap (λ (x : Read ℕ). read_or x.answer (λ v. good (some v))) (sym (rw l at g)))
-
-  -- an angle's measure with an unreadable number has no factor, or 13 refuses
-  pub number_unread : (w : Row) {p : Lookup.FileSpan} {y : Read ℕ} {q : Refusal} → find i ≡ good_by some (seen_record_of s w) → good p ≡ span_in (length s) w.arg_start w.arg_end → y ≡ next_of measure_of s p.start p.end
-      → y.answer ≡ bad q → unread_of y.answer ≡ angle_number s find i
-  number_unread w {p} {y} h e g l = unread_or (λ v. good (some v)) y.answer l ∙ sym (number_some w h e g)
-
   -- "An angle's conversion gives the measure's number alone."
-  pub number_read : (w : Row) {p : Lookup.FileSpan} {v o f : ℕ} → find i ≡ good_by some (seen_record_of s w) → good p ≡ span_in (length s) w.arg_start w.arg_end → reading (good v) o f ≡ next_of measure_of s p.start p.end
-      → good (some v) ≡ angle_number s find i
-  number_read w h e g = sym (number_some w h e g)
+  pub number_alone : (w : Row) {p : Range} → find i ≡ good_by Some (seen_record_of s w) → good p ≡ span_in (length s) w.arg_start w.arg_end → number_or_none (next_of measure_of s p.start p.end).answer ≡ angle_number s find i
+  unfolding angle_number
+  number_alone w h e =
+      let (f, l) = span_good (length s) w.arg_start w.arg_end e in
+      rw (h, f, l) refl

@@ -1,7 +1,6 @@
 -- The factor of a length unit by how many conversions are left, as contracts cite it. Assumes nothing.
 -- Definitions to be believed: no law, and nothing computed that no theorem ties (docs/BELIEVE.md).
-use Rattle.std.specs.Prelude.{ℕ, List}
-use Rattle.std.proofs.Math.Option.{Option}
+use Rattle.std.specs.Prelude.{ℕ, List, Option}
 use Rattle.error.specs.Refusal.{Told}
 use Rattle.factors.specs.SeenRecords.{SeenRecord}
 use Rattle.factors.specs.Factor.{length_of}

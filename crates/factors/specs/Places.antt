@@ -1,8 +1,7 @@
 -- "with a place from 0 to the input's length" (demand 1), for the factor of a unit: every refusal lies in the file, whatever the lent
 -- tables hold. Assumes nothing.
 use Prim.Native.Nat.{ℕ, zero, suc, ◌-◌, ◌≤◌}
-use Rattle.std.specs.Prelude.{◌≡◌, refl, Bool, true, false, List, [], map, eqb, length}
-use Rattle.std.proofs.Math.Option.{Option, none, some}
+use Rattle.std.specs.Prelude.{◌≡◌, refl, Bool, true, false, List, [], map, eqb, length, Option, Some, None}
 use Rattle.std.proofs.Common.{arith}
 use Rattle.common.specs.Pick.{pick}
 use Rattle.common.specs.Tests.{bounds}
@@ -53,8 +52,8 @@ module _ {A B : Type 0} (n : ℕ) where
 
   -- an answer that may be none, read on, refuses in the file where all that may follow does
   pub option_placed : (other : Told B) (f : A → Told B) (x : Told (Option A)) → PlacedIn n x → PlacedIn n other → ((a : A) → PlacedIn n (f a)) → PlacedIn n (onward (option_by other f) x)
-  option_placed other f (good none) h o k = o
-  option_placed other f (good (some a)) h o k = k a
+  option_placed other f (good None) h o k = o
+  option_placed other f (good (Some a)) h o k = k a
   option_placed other f (bad q) h o k = h
 
 -- ---- records
@@ -64,8 +63,8 @@ SeenRecordIn n t = (t.run.start ≤ n) × PlacedIn n t.parts
 
 -- a record that was found lies in a file of n bytes, or there is none
 abbrev pub FoundIn : ℕ → Option SeenRecord → Type 0
-FoundIn n none = Unit {0}
-FoundIn n (some t) = SeenRecordIn n t
+FoundIn n None = Unit {0}
+FoundIn n (Some t) = SeenRecordIn n t
 
 -- the record of a row lies in the file, and so does what refuses it
 pub seen_record_in : (s : List ℕ) (w : Row) → ToldIn (length s) (SeenRecordIn (length s)) (seen_record_of s w)
@@ -84,19 +83,19 @@ pub find_in : (s rows slots : List ℕ) (ids : Ids) (i : ℕ) → ToldIn (length
 unfolding find_of
 find_in s rows slots ids i = go (row_found rows (searched rows slots ids i))
   where
-    one : (x : Told SeenRecord) → ToldIn (length s) (SeenRecordIn (length s)) x → ToldIn (length s) (FoundIn (length s)) (good_by some x)
+    one : (x : Told SeenRecord) → ToldIn (length s) (SeenRecordIn (length s)) x → ToldIn (length s) (FoundIn (length s)) (good_by Some x)
     one (good t) h = h
     one (bad q) h = h
 
     go : (x : Option Row) → ToldIn (length s) (FoundIn (length s)) (seen_record_found s x)
-    go none = tt
-    go (some w) = one (seen_record_of s w) (seen_record_in s w)
+    go None = tt
+    go (Some w) = one (seen_record_of s w) (seen_record_in s w)
 
 -- what refuses the arguments of a record of a kind, or of its first part of that kind, lies in the file
 pub self_in : (n : ℕ) (k : Kind) (t : SeenRecord) → SeenRecordIn n t → PlacedIn n (self_or k t)
 self_in n k t h = go (same_kind t.kind k)
   where
-    go : (b : Bool) → PlacedIn n (pick b (good (some t.run)) (good_by (first_unit_part k) t.parts))
+    go : (b : Bool) → PlacedIn n (pick b (good (Some t.run)) (good_by (first_unit_part k) t.parts))
     go true = tt
     go false = by_placed n (first_unit_part k) t.parts h.1
 
@@ -104,7 +103,7 @@ self_in n k t h = go (same_kind t.kind k)
 run_in : (n : ℕ) (t : SeenRecord) → SeenRecordIn n t → PlacedIn n (measure_run t)
 run_in n t h = go (same_kind t.kind Kinds.Complex)
   where
-    go : (b : Bool) → PlacedIn n (pick b (good_by (first_unit_part LengthMeasureWithUnit) t.parts) (good (some t.run)))
+    go : (b : Bool) → PlacedIn n (pick b (good_by (first_unit_part LengthMeasureWithUnit) t.parts) (good (Some t.run)))
     go true = by_placed n (first_unit_part LengthMeasureWithUnit) t.parts h.1
     go false = tt
 
@@ -130,7 +129,7 @@ ref_placed s r =
 -- what refuses one unit of a chain lies in the file: 15 stands at the record's arguments
 link_in : (s : List ℕ) (left : ℕ) (t : SeenRecord) → SeenRecordIn (length s) t → PlacedIn (length s) (link_of s left t)
 unfolding link_of
-link_in s left t h = unit_in_lem (length s) (λ r. good (known (si_length s r))) (conversion_of s left t.run.start) (known none) t h (λ r. tt) (λ r. go (eqb left 0) r)
+link_in s left t h = unit_in_lem (length s) (λ r. good (known (si_length s r))) (conversion_of s left t.run.start) (known None) t h (λ r. tt) (λ r. go (eqb left 0) r)
   where
     go : (b : Bool) (r : Span) → PlacedIn (length s) (pick b (bad (refusal 15 0 t.run.start)) (good_by leads (measure_ref s r)))
     go true r = h.0
@@ -141,7 +140,7 @@ read_placed : (n : ℕ) (x : Told ℕ) (k : ℕ → Told (Option ℕ)) → Place
 read_placed n (good v) k h l = l v
 read_placed n (bad q) k h l = go (eqb q.number 13)
   where
-    go : (b : Bool) → PlacedIn {A = Option ℕ} n (pick b (bad q) (good none))
+    go : (b : Bool) → PlacedIn {A = Option ℕ} n (pick b (bad q) (good None))
     go true = h
     go false = tt
 
@@ -152,33 +151,33 @@ base_placed n (bad q) k l = tt
 
 module _ (s : List ℕ) (find : ℕ → Told (Option SeenRecord)) (finds : (i : ℕ) → ToldIn (length s) (FoundIn (length s)) (find i)) where
   -- what refuses a record that was found, or what is made of it, lies in the file
-  found_placed : (f : SeenRecord → Told (Option ℕ)) (i : ℕ) → ((t : SeenRecord) → SeenRecordIn (length s) t → PlacedIn (length s) (f t)) → PlacedIn (length s) (onward (option_by (good none) f) (find i))
-  found_placed f i k = on_placed (length s) (FoundIn (length s)) (option_by (good none) f) (find i) (finds i) go
+  found_placed : (f : SeenRecord → Told (Option ℕ)) (i : ℕ) → ((t : SeenRecord) → SeenRecordIn (length s) t → PlacedIn (length s) (f t)) → PlacedIn (length s) (onward (option_by (good None) f) (find i))
+  found_placed f i k = on_placed (length s) (FoundIn (length s)) (option_by (good None) f) (find i) (finds i) go
     where
-      go : (x : Option SeenRecord) → FoundIn (length s) x → PlacedIn (length s) (option_by (good none) f x)
-      go none h = tt
-      go (some t) h = k t h
+      go : (x : Option SeenRecord) → FoundIn (length s) x → PlacedIn (length s) (option_by (good None) f x)
+      go None h = tt
+      go (Some t) h = k t h
 
   -- what refuses a measure lies in the file, where k gives the factor of its base
   measure_in_lem : (k : SeenRecord → Told (Option ℕ)) → ((t : SeenRecord) → SeenRecordIn (length s) t → PlacedIn (length s) (k t)) → (i : ℕ) → PlacedIn (length s) (measure_in s find k i)
   unfolding measure_in
-  measure_in_lem k h i = found_placed (λ t. onward (option_by (good none) (measure_at s find k)) (measure_run t)) i
-      (λ t l. option_placed (length s) (good none) (measure_at s find k) (measure_run t) (run_in (length s) t l) tt measure)
+  measure_in_lem k h i = found_placed (λ t. onward (option_by (good None) (measure_at s find k)) (measure_run t)) i
+      (λ t l. option_placed (length s) (good None) (measure_at s find k) (measure_run t) (run_in (length s) t l) tt measure)
     where
-      base : (v b : ℕ) → PlacedIn (length s) (onward (option_by (good none) (λ t. scaled_by v (k t))) (find b))
+      base : (v b : ℕ) → PlacedIn (length s) (onward (option_by (good None) (λ t. scaled_by v (k t))) (find b))
       base v b = found_placed (λ t. scaled_by v (k t)) b (λ t l. by_placed (length s) _ (k t) (h t l))
 
       measure : (r : Span) → PlacedIn (length s) (measure_at s find k r)
       measure r =
           read_placed (length s) (next_of measure_of s r.start r.stop).answer (λ v. base_of s find k v (next_of measure_of s r.start r.stop).place r.stop) (scalar_next_placed measure_of s r.start r.stop)
-          (λ v. base_placed (length s) (next_of reference_of s (next_of measure_of s r.start r.stop).place r.stop).answer (λ b. onward (option_by (good none) (λ t. scaled_by v (k t))) (find b)) (base v))
+          (λ v. base_placed (length s) (next_of reference_of s (next_of measure_of s r.start r.stop).place r.stop).answer (λ b. onward (option_by (good None) (λ t. scaled_by v (k t))) (find b)) (base v))
 
   -- what refuses a length unit lies in the file
   pub length_in : (left : ℕ) (t : SeenRecord) → SeenRecordIn (length s) t → PlacedIn (length s) (length_of s find left t)
   unfolding length_of
-  length_in zero t h = any_placed (length s) (chained (λ i. good none)) (link_of s zero t) (link_in s zero t h) go
+  length_in zero t h = any_placed (length s) (chained (λ i. good None)) (link_of s zero t) (link_in s zero t h) go
     where
-      go : (c : Chain) → PlacedIn (length s) (chained (λ i. good none) c)
+      go : (c : Chain) → PlacedIn (length s) (chained (λ i. good None) c)
       go (known f) = tt
       go (leads i) = tt
   length_in (suc n) t h = any_placed (length s) (chained (measure_in s find (λ b. length_of s find n b))) (link_of s (suc n) t) (link_in s (suc n) t h) (go (measure_in_lem (λ b. length_of s find n b) (length_in n)))
@@ -190,13 +189,13 @@ module _ (s : List ℕ) (find : ℕ → Told (Option SeenRecord)) (finds : (i : 
   -- what refuses an angle's number lies in the file
   number_in_lem : (i : ℕ) → PlacedIn (length s) (angle_number s find i)
   unfolding angle_number
-  number_in_lem i = found_placed (λ t. read_or (next_of measure_of s t.run.start t.run.stop).answer (λ v. good (some v))) i
-      (λ t l. read_placed (length s) (next_of measure_of s t.run.start t.run.stop).answer (λ v. good (some v)) (scalar_next_placed measure_of s t.run.start t.run.stop) (λ v. tt))
+  number_in_lem i = found_placed (λ t. read_or (next_of measure_of s t.run.start t.run.stop).answer (λ v. good (Some v))) i
+      (λ t l. read_placed (length s) (next_of measure_of s t.run.start t.run.stop).answer (λ v. good (Some v)) (scalar_next_placed measure_of s t.run.start t.run.stop) (λ v. tt))
 
   -- what refuses an angle unit lies in the file
   pub angle_in : (t : SeenRecord) → SeenRecordIn (length s) t → PlacedIn (length s) (angle_of s find t)
   unfolding angle_of
-  angle_in t h = unit_in_lem (length s) (λ r. good (si_angle s r)) (λ r. onward (angle_number s find) (measure_ref s r)) none t h (λ r. tt) (λ r. any_placed (length s) (angle_number s find) (measure_ref s r) (ref_placed s r) number_in_lem)
+  angle_in t h = unit_in_lem (length s) (λ r. good (si_angle s r)) (λ r. onward (angle_number s find) (measure_ref s r)) None t h (λ r. tt) (λ r. any_placed (length s) (angle_number s find) (measure_ref s r) (ref_placed s r) number_in_lem)
 
 module _ (s rows slots : List ℕ) (ids : Ids) (w : Row) where
   -- what refuses an answer of `length_factor` lies in the file

@@ -2,8 +2,7 @@
 -- measure that it leads to, or of that measure's base unit. `find` gives the record of an id, or none. RulesRight.antt shows that
 -- Factor.antt computes just this, and that there is no other answer; Depth.antt, where 15 is given. Assumes nothing.
 -- Definitions to be believed: no law, and nothing computed that no theorem ties (docs/BELIEVE.md).
-use Rattle.std.specs.Prelude.{ℕ, zero, suc, ◌<◌, ◌≡◌, true, false, List}
-use Rattle.std.proofs.Math.Option.{Option, none, some}
+use Rattle.std.specs.Prelude.{ℕ, zero, suc, ◌<◌, ◌≡◌, true, false, List, Option, Some, None}
 use Rattle.error.specs.Refusal.{Refusal, refusal, Told, good, bad}
 use Rattle.reals.specs.Scalar.{reference_of}
 use Rattle.kinds.specs.declared.Kind.{Kind}
@@ -23,14 +22,14 @@ OfKind k p r = (same_kind p.kind k ≡ true) × (p.run ≡ r)
 -- "a complex one with that part": the arguments of the first part of a kind, or none
 pub data UnitPartForm (k : Kind) (ps : List UnitPart) : Option Span → Type 0 where
   -- the first part of the kind
-  part : {r : Span} → IsFirst (λ p. same_kind p.kind k ≡ false) (OfKind k) ps r → UnitPartForm k ps (some r)
+  part : {r : Span} → IsFirst (λ p. same_kind p.kind k ≡ false) (OfKind k) ps r → UnitPartForm k ps (Some r)
   -- no part is of the kind
-  without : Each (λ p. same_kind p.kind k ≡ false) ps → UnitPartForm k ps none
+  without : Each (λ p. same_kind p.kind k ≡ false) ps → UnitPartForm k ps None
 
 -- ---- a length unit
 -- "An SI part goes before a conversion": a conversion unit with the arguments r has no SI part
 abbrev pub Converts : SeenRecord → Span → Type 0
-Converts t r = (self_or SiUnit t ≡ good none) × (self_or ConversionBasedUnit t ≡ good (some r))
+Converts t r = (self_or SiUnit t ≡ good None) × (self_or ConversionBasedUnit t ≡ good (Some r))
 
 -- the number of a measure that has the arguments r
 abbrev pub measure_number_at : List ℕ → Span → Told ℕ
@@ -48,26 +47,26 @@ pub data Based : Type 0 where
 module _ (s : List ℕ) (find : ℕ → Told (Option SeenRecord)) where
   -- the record of an id has a measure's arguments
   abbrev pub HasMeasure : ℕ → Span → Type 0
-  HasMeasure i r = (m : SeenRecord) × ((find i ≡ good (some m)) × (measure_run m ≡ good (some r)))
+  HasMeasure i r = (m : SeenRecord) × ((find i ≡ good (Some m)) × (measure_run m ≡ good (Some r)))
 
   -- "[..] leads to a measure and the measure to its base unit": the measure of an id
   pub data MeasureBaseForm (i : ℕ) : Based → Type 0 where
     -- the measure's number, and then its base unit
-    leads : {r : Span} {v b : ℕ} {u : SeenRecord} → HasMeasure i r → measure_number_at s r ≡ good v → base_at s r ≡ good b → find b ≡ good (some u) → MeasureBaseForm i (base v u)
+    leads : {r : Span} {v b : ℕ} {u : SeenRecord} → HasMeasure i r → measure_number_at s r ≡ good v → base_at s r ≡ good b → find b ≡ good (Some u) → MeasureBaseForm i (base v u)
     -- "a missing record [..] gives no factor"
-    missing : find i ≡ good none → MeasureBaseForm i (chain_ends (good none))
+    missing : find i ≡ good None → MeasureBaseForm i (chain_ends (good None))
     -- "nor does a complex length measure lacking a LENGTH_MEASURE_WITH_UNIT part"
-    lacking : {m : SeenRecord} → find i ≡ good (some m) → measure_run m ≡ good none → MeasureBaseForm i (chain_ends (good none))
+    lacking : {m : SeenRecord} → find i ≡ good (Some m) → measure_run m ≡ good None → MeasureBaseForm i (chain_ends (good None))
     -- "an unreadable number [..] gives no factor"
-    unreadable : {r : Span} {q : Refusal} → HasMeasure i r → measure_number_at s r ≡ bad q → (q.number ≡ 13 → ⊥) → MeasureBaseForm i (chain_ends (good none))
+    unreadable : {r : Span} {q : Refusal} → HasMeasure i r → measure_number_at s r ≡ bad q → (q.number ≡ 13 → ⊥) → MeasureBaseForm i (chain_ends (good None))
     -- "an unreadable [..] base, gives no factor"
-    unbased : {r : Span} {v : ℕ} {q : Refusal} → HasMeasure i r → measure_number_at s r ≡ good v → base_at s r ≡ bad q → MeasureBaseForm i (chain_ends (good none))
+    unbased : {r : Span} {v : ℕ} {q : Refusal} → HasMeasure i r → measure_number_at s r ≡ good v → base_at s r ≡ bad q → MeasureBaseForm i (chain_ends (good None))
     -- "a missing record [..] gives no factor": the base's record is missing
-    baseless : {r : Span} {v b : ℕ} → HasMeasure i r → measure_number_at s r ≡ good v → base_at s r ≡ good b → find b ≡ good none → MeasureBaseForm i (chain_ends (good none))
+    baseless : {r : Span} {v b : ℕ} → HasMeasure i r → measure_number_at s r ≡ good v → base_at s r ≡ good b → find b ≡ good None → MeasureBaseForm i (chain_ends (good None))
     -- "13 inside units refuses the whole answer."
     classless : {r : Span} {q : Refusal} → HasMeasure i r → measure_number_at s r ≡ bad q → q.number ≡ 13 → MeasureBaseForm i (chain_ends (bad q))
     -- "a fault in the parts of a complex record met, refuses the whole answer"
-    faulty : {m : SeenRecord} {q : Refusal} → find i ≡ good (some m) → measure_run m ≡ bad q → MeasureBaseForm i (chain_ends (bad q))
+    faulty : {m : SeenRecord} {q : Refusal} → find i ≡ good (Some m) → measure_run m ≡ bad q → MeasureBaseForm i (chain_ends (bad q))
     -- "9 span [..] outside the file or backwards": the measure's record cannot be had
     lost : {q : Refusal} → find i ≡ bad q → MeasureBaseForm i (chain_ends (bad q))
     -- "9 span [..] outside the file or backwards": the base's record cannot be had
@@ -76,9 +75,9 @@ module _ (s : List ℕ) (find : ℕ → Told (Option SeenRecord)) where
   -- the factor of a length unit that has k conversion units before it on its chain
   pub data LengthForm : ℕ → SeenRecord → Told (Option ℕ) → Type 0 where
     -- "An SI part goes before a conversion"
-    si : {k : ℕ} {t : SeenRecord} {r : Span} → self_or SiUnit t ≡ good (some r) → LengthForm k t (good (si_length s r))
+    si : {k : ℕ} {t : SeenRecord} {r : Span} → self_or SiUnit t ≡ good (Some r) → LengthForm k t (good (si_length s r))
     -- a unit with neither an SI part nor a conversion has no factor
-    neither : {k : ℕ} {t : SeenRecord} → self_or SiUnit t ≡ good none → self_or ConversionBasedUnit t ≡ good none → LengthForm k t (good none)
+    neither : {k : ℕ} {t : SeenRecord} → self_or SiUnit t ≡ good None → self_or ConversionBasedUnit t ≡ good None → LengthForm k t (good None)
     -- "A conversion unit leads to a measure and the measure to its base unit, value times base factor"
     conversion : {k i v : ℕ} {t u : SeenRecord} {r : Span} {a : Told (Option ℕ)} → k < 16 → Converts t r → measure_ref s r ≡ good i → MeasureBaseForm i (base v u) → LengthForm (suc k) u a → LengthForm k t (scaled_by v a)
     -- a conversion unit whose measure leads to no base unit has the answer that ends the chain there
@@ -117,17 +116,17 @@ module _ (s : List ℕ) (find : ℕ → Told (Option SeenRecord)) where
   -- the factor of an angle unit
   pub data AngleForm (t : SeenRecord) : Told (Option ℕ) → Type 0 where
     -- an SI unit of angle: "Angle: the prefix factor."
-    si : {r : Span} → self_or SiUnit t ≡ good (some r) → AngleForm t (good (si_angle s r))
+    si : {r : Span} → self_or SiUnit t ≡ good (Some r) → AngleForm t (good (si_angle s r))
     -- a unit with neither an SI part nor a conversion has no factor
-    neither : self_or SiUnit t ≡ good none → self_or ConversionBasedUnit t ≡ good none → AngleForm t (good none)
+    neither : self_or SiUnit t ≡ good None → self_or ConversionBasedUnit t ≡ good None → AngleForm t (good None)
     -- "An angle's conversion gives the measure's number alone."
-    conversion : {r : Span} {i v : ℕ} {m : SeenRecord} → Converts t r → measure_ref s r ≡ good i → find i ≡ good (some m) → measure_number_at s m.run ≡ good v → AngleForm t (good (some v))
+    conversion : {r : Span} {i v : ℕ} {m : SeenRecord} → Converts t r → measure_ref s r ≡ good i → find i ≡ good (Some m) → measure_number_at s m.run ≡ good v → AngleForm t (good (Some v))
     -- "a missing record, or an unreadable number [..], gives no factor": the measure's record is missing
-    missing : {r : Span} {i : ℕ} → Converts t r → measure_ref s r ≡ good i → find i ≡ good none → AngleForm t (good none)
+    missing : {r : Span} {i : ℕ} → Converts t r → measure_ref s r ≡ good i → find i ≡ good None → AngleForm t (good None)
     -- "a missing record, or an unreadable number [..], gives no factor": the measure's number is unreadable
-    unreadable : {r : Span} {i : ℕ} {m : SeenRecord} {q : Refusal} → Converts t r → measure_ref s r ≡ good i → find i ≡ good (some m) → measure_number_at s m.run ≡ bad q → (q.number ≡ 13 → ⊥) → AngleForm t (good none)
+    unreadable : {r : Span} {i : ℕ} {m : SeenRecord} {q : Refusal} → Converts t r → measure_ref s r ≡ good i → find i ≡ good (Some m) → measure_number_at s m.run ≡ bad q → (q.number ≡ 13 → ⊥) → AngleForm t (good None)
     -- "13 inside units refuses the whole answer."
-    classless : {r : Span} {i : ℕ} {m : SeenRecord} {q : Refusal} → Converts t r → measure_ref s r ≡ good i → find i ≡ good (some m) → measure_number_at s m.run ≡ bad q → q.number ≡ 13 → AngleForm t (bad q)
+    classless : {r : Span} {i : ℕ} {m : SeenRecord} {q : Refusal} → Converts t r → measure_ref s r ≡ good i → find i ≡ good (Some m) → measure_number_at s m.run ≡ bad q → q.number ≡ 13 → AngleForm t (bad q)
     -- "9 span [..] outside the file or backwards": the measure's record cannot be had
     lost : {r : Span} {i : ℕ} {q : Refusal} → Converts t r → measure_ref s r ≡ good i → find i ≡ bad q → AngleForm t (bad q)
     -- "An unreadable [..] conversion name or measure reference [..] refuses the whole answer"

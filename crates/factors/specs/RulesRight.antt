@@ -1,8 +1,7 @@
 -- Rules.antt and what Factor.antt computes are one: the factor that is computed is so, and nothing else is. Assumes nothing.
-use Rattle.std.specs.Prelude.{ℕ, zero, suc, ◌+◌, ◌-◌, ◌<◌, ◌≡◌, ◌⊎◌, Bool, true, false, List, ◌∷◌, eqb}
+use Rattle.std.specs.Prelude.{ℕ, zero, suc, ◌+◌, ◌-◌, ◌<◌, ◌≡◌, ◌⊎◌, Bool, true, false, List, ◌∷◌, eqb, Option, Some, None}
 use Rattle.std.proofs.Math.Path.{refl, ap}
 use Rattle.std.proofs.Common.{sym, ◌∙◌, inl, inr, arith}
-use Rattle.std.proofs.Math.Option.{Option, none, some}
 use borrow.Author.Tests.{eqb-true, eqb-false, eq-eqb, ne_eqb}
 use Rattle.common.specs.Pick.{pick}
 use Rattle.common.specs.Compare.{clash}
@@ -26,13 +25,13 @@ module _ (k : Kind) where
   piece_on p ps e = rw e refl
 
   -- a part of the kind in front is the first of the kind
-  piece_here : (p : UnitPart) (ps : List UnitPart) (r : Span) → OfKind k p r → some r ≡ first_unit_part k (p ∷ ps)
+  piece_here : (p : UnitPart) (ps : List UnitPart) (r : Span) → OfKind k p r → Some r ≡ first_unit_part k (p ∷ ps)
   piece_here p ps r (e, f) = rw (e, f) refl
 
   -- the first part by the rules is the one that is computed
   pub unit_part_form_only : {ps : List UnitPart} {o : Option Span} → UnitPartForm k ps o → o ≡ first_unit_part k ps
-  unit_part_form_only {ps} (UnitPartForm.part {r} h) = first_decides (λ p. same_kind p.kind k ≡ false) (OfKind k) some (first_unit_part k) piece_on piece_here ps r h
-  unit_part_form_only {ps} (UnitPartForm.without h) = first_never (λ p. same_kind p.kind k ≡ false) (OfKind k) some (first_unit_part k) piece_on piece_here ps h
+  unit_part_form_only {ps} (UnitPartForm.part {r} h) = first_decides (λ p. same_kind p.kind k ≡ false) (OfKind k) Some (first_unit_part k) piece_on piece_here ps r h
+  unit_part_form_only {ps} (UnitPartForm.without h) = first_never (λ p. same_kind p.kind k ≡ false) (OfKind k) Some (first_unit_part k) piece_on piece_here ps h
 
   -- the first part of a kind that is computed is the one by the rules
   pub unit_part_form_is : (ps : List UnitPart) → UnitPartForm k ps (first_unit_part k ps)
@@ -47,10 +46,10 @@ module _ (k : Kind) where
       go (inr (r, h)) = (_, UnitPartForm.part h)
 
 -- where a record has no part of one kind, its parts have no fault
-no_fault : (a b : Kind) (t : SeenRecord) → self_or a t ≡ good none → (o : Option Span) × (self_or b t ≡ good o)
+no_fault : (a b : Kind) (t : SeenRecord) → self_or a t ≡ good None → (o : Option Span) × (self_or b t ≡ good o)
 no_fault a b t e = go (same_kind t.kind a) (same_kind t.kind b) t.parts e
   where
-    go : (x y : Bool) (ps : Told (List UnitPart)) → pick x (good (some t.run)) (good_by (first_unit_part a) ps) ≡ good none → (o : Option Span) × (pick y (good (some t.run)) (good_by (first_unit_part b) ps) ≡ good o)
+    go : (x y : Bool) (ps : Told (List UnitPart)) → pick x (good (Some t.run)) (good_by (first_unit_part a) ps) ≡ good None → (o : Option Span) × (pick y (good (Some t.run)) (good_by (first_unit_part b) ps) ≡ good o)
     go true y ps e = clash (cc)
     go false true ps e = (_, refl)
     go false false (good ps) e = (_, refl)
@@ -82,8 +81,8 @@ module _ (s : List ℕ) (find : ℕ → Told (Option SeenRecord)) where
   measure_comes i = found (find i) refl
     where
       based : {r : Span} {v b : ℕ} → HasMeasure s find i r → measure_number_at s r ≡ good v → base_at s r ≡ good b → (x : Told (Option SeenRecord)) → find b ≡ x → (b : Based) × MeasureBaseForm s find i b
-      based h n b (good none) u = (_, MeasureBaseForm.baseless h n b u)
-      based h n b (good (some t)) u = (_, MeasureBaseForm.leads h n b u)
+      based h n b (good None) u = (_, MeasureBaseForm.baseless h n b u)
+      based h n b (good (Some t)) u = (_, MeasureBaseForm.leads h n b u)
       based h n b (bad q) u = (_, MeasureBaseForm.base_lost h n b u)
 
       number : {r : Span} {v : ℕ} → HasMeasure s find i r → measure_number_at s r ≡ good v → (x : Told ℕ) → base_at s r ≡ x → (b : Based) × MeasureBaseForm s find i b
@@ -98,14 +97,14 @@ module _ (s : List ℕ) (find : ℕ → Told (Option SeenRecord)) where
       args {r} h (good v) n = number h n (base_at s r) refl
       args h (bad q) n = refused h n (eqb q.number 13) refl
 
-      measure : (m : SeenRecord) → find i ≡ good (some m) → (x : Told (Option Span)) → measure_run m ≡ x → (b : Based) × MeasureBaseForm s find i b
-      measure m f (good none) h = (_, MeasureBaseForm.lacking f h)
-      measure m f (good (some r)) h = args (m, (f, h)) (measure_number_at s r) refl
+      measure : (m : SeenRecord) → find i ≡ good (Some m) → (x : Told (Option Span)) → measure_run m ≡ x → (b : Based) × MeasureBaseForm s find i b
+      measure m f (good None) h = (_, MeasureBaseForm.lacking f h)
+      measure m f (good (Some r)) h = args (m, (f, h)) (measure_number_at s r) refl
       measure m f (bad q) h = (_, MeasureBaseForm.faulty f h)
 
       found : (x : Told (Option SeenRecord)) → find i ≡ x → (b : Based) × MeasureBaseForm s find i b
-      found (good none) f = (_, MeasureBaseForm.missing f)
-      found (good (some m)) f = measure m f (measure_run m) refl
+      found (good None) f = (_, MeasureBaseForm.missing f)
+      found (good (Some m)) f = measure m f (measure_run m) refl
       found (bad q) f = (_, MeasureBaseForm.lost f)
 
   -- ---- a length unit
@@ -118,7 +117,7 @@ module _ (s : List ℕ) (find : ℕ → Told (Option SeenRecord)) where
   length_steps : {k : ℕ} {t : SeenRecord} {a : Told (Option ℕ)} → LengthForm s find k t a → (n : ℕ) → k + n ≡ 16 → a ≡ length_of s find n t
   unfolding link_of based_by
   length_steps {t = t} (LengthForm.si {r} e) n h = chain_known s find n (good t) (good (si_length s r)) (rw e refl)
-  length_steps {t = t} (LengthForm.neither e f) n h = chain_known s find n (good t) (good none) (rw (e, f) refl)
+  length_steps {t = t} (LengthForm.neither e f) n h = chain_known s find n (good t) (good None) (rw (e, f) refl)
   length_steps {t = t} (LengthForm.faulty {q} e) n h = chain_known s find n (good t) (bad q) (rw e refl)
   length_steps {t = t} (LengthForm.deep d (e, f)) n h = chain_known s find n (good t) (bad (refusal 15 0 t.run.start)) (rw (e, f, eq-eqb n 0 (omega arith)) refl)
   length_steps {t = t} (LengthForm.unnamed {r} {q} l c m) n h = chain_known s find n (good t) (bad q) (sym (link_leads n t r (λ z. absurd (omega arith)) c ∙ ap (good_by leads) m))
@@ -143,14 +142,14 @@ module _ (s : List ℕ) (find : ℕ → Told (Option SeenRecord)) where
       converts r c (inl d) = (_, LengthForm.deep d c)
       converts r c (inr (l, on)) = named r l on c (measure_ref s r) refl
 
-      other : self_or SiUnit t ≡ good none → (o : Option Span) → self_or ConversionBasedUnit t ≡ good o → (a : Told (Option ℕ)) × LengthForm s find k t a
-      other e none f = (_, LengthForm.neither e f)
-      other e (some r) f = converts r (e, f) next
+      other : self_or SiUnit t ≡ good None → (o : Option Span) → self_or ConversionBasedUnit t ≡ good o → (a : Told (Option ℕ)) × LengthForm s find k t a
+      other e None f = (_, LengthForm.neither e f)
+      other e (Some r) f = converts r (e, f) next
 
       by : (x : Told (Option Span)) → self_or SiUnit t ≡ x → (a : Told (Option ℕ)) × LengthForm s find k t a
       by (bad q) e = (_, LengthForm.faulty e)
-      by (good (some r)) e = (_, LengthForm.si e)
-      by (good none) e = let (o, f) = no_fault SiUnit ConversionBasedUnit t e in other e o f
+      by (good (Some r)) e = (_, LengthForm.si e)
+      by (good None) e = let (o, f) = no_fault SiUnit ConversionBasedUnit t e in other e o f
 
   -- every length unit has a factor by the rules, where those before it and those left are sixteen
   length_all : (n k : ℕ) → k + n ≡ 16 → (t : SeenRecord) → (a : Told (Option ℕ)) × LengthForm s find k t a
@@ -183,28 +182,28 @@ module _ (s : List ℕ) (find : ℕ → Told (Option SeenRecord)) where
   pub angle_form_is : (t : SeenRecord) → AngleForm s find t (angle_of s find t)
   angle_form_is t = sole (AngleForm s find t) (λ a. angle_form_only) (by (self_or SiUnit t) refl)
     where
-      refused : {r : Span} {i : ℕ} {m : SeenRecord} {q : Refusal} → Converts t r → measure_ref s r ≡ good i → find i ≡ good (some m) → measure_number_at s m.run ≡ bad q → (b : Bool) → eqb q.number 13 ≡ b → (a : Told (Option ℕ)) × AngleForm s find t a
+      refused : {r : Span} {i : ℕ} {m : SeenRecord} {q : Refusal} → Converts t r → measure_ref s r ≡ good i → find i ≡ good (Some m) → measure_number_at s m.run ≡ bad q → (b : Bool) → eqb q.number 13 ≡ b → (a : Told (Option ℕ)) × AngleForm s find t a
       refused {q = q} c m f n true e = (_, AngleForm.classless c m f n (eqb-true q.number 13 e))
       refused {q = q} c m f n false e = (_, AngleForm.unreadable c m f n (eqb-false q.number 13 e))
 
-      number : {r : Span} {i : ℕ} {m : SeenRecord} → Converts t r → measure_ref s r ≡ good i → find i ≡ good (some m) → (x : Told ℕ) → measure_number_at s m.run ≡ x → (a : Told (Option ℕ)) × AngleForm s find t a
+      number : {r : Span} {i : ℕ} {m : SeenRecord} → Converts t r → measure_ref s r ≡ good i → find i ≡ good (Some m) → (x : Told ℕ) → measure_number_at s m.run ≡ x → (a : Told (Option ℕ)) × AngleForm s find t a
       number c m f (good v) n = (_, AngleForm.conversion c m f n)
       number c m f (bad q) n = refused c m f n (eqb q.number 13) refl
 
       found : {r : Span} {i : ℕ} → Converts t r → measure_ref s r ≡ good i → (x : Told (Option SeenRecord)) → find i ≡ x → (a : Told (Option ℕ)) × AngleForm s find t a
-      found c m (good none) f = (_, AngleForm.missing c m f)
-      found c m (good (some u)) f = number c m f (measure_number_at s u.run) refl
+      found c m (good None) f = (_, AngleForm.missing c m f)
+      found c m (good (Some u)) f = number c m f (measure_number_at s u.run) refl
       found c m (bad q) f = (_, AngleForm.lost c m f)
 
       named : {r : Span} → Converts t r → (x : Told ℕ) → measure_ref s r ≡ x → (a : Told (Option ℕ)) × AngleForm s find t a
       named c (good i) m = found c m (find i) refl
       named c (bad q) m = (_, AngleForm.unnamed c m)
 
-      other : self_or SiUnit t ≡ good none → (o : Option Span) → self_or ConversionBasedUnit t ≡ good o → (a : Told (Option ℕ)) × AngleForm s find t a
-      other e none f = (_, AngleForm.neither e f)
-      other e (some r) f = named (e, f) (measure_ref s r) refl
+      other : self_or SiUnit t ≡ good None → (o : Option Span) → self_or ConversionBasedUnit t ≡ good o → (a : Told (Option ℕ)) × AngleForm s find t a
+      other e None f = (_, AngleForm.neither e f)
+      other e (Some r) f = named (e, f) (measure_ref s r) refl
 
       by : (x : Told (Option Span)) → self_or SiUnit t ≡ x → (a : Told (Option ℕ)) × AngleForm s find t a
       by (bad q) e = (_, AngleForm.faulty e)
-      by (good (some r)) e = (_, AngleForm.si e)
-      by (good none) e = let (o, f) = no_fault SiUnit ConversionBasedUnit t e in other e o f
+      by (good (Some r)) e = (_, AngleForm.si e)
+      by (good None) e = let (o, f) = no_fault SiUnit ConversionBasedUnit t e in other e o f

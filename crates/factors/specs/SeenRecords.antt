@@ -1,8 +1,7 @@
 -- What the units see of a record: its kind, its arguments and, of a complex one, its parts or their fault; and the record of an id.
 -- Records, lookups and parts are those of the crates below. Assumes nothing.
 -- Definitions to be believed: no law, and nothing computed that no theorem ties (docs/BELIEVE.md).
-use Rattle.std.specs.Prelude.{ℕ, Bool, List, [], ◌∷◌, map, eqb, length}
-use Rattle.std.proofs.Math.Option.{Option, none, some}
+use Rattle.std.specs.Prelude.{ℕ, Bool, List, [], ◌∷◌, map, eqb, length, Option, Some, None}
 use Rattle.common.specs.Pick.{pick}
 use Rattle.error.specs.Refusal.{refusal, Told, good, bad}
 use Rattle.statement.specs.Rows.{Row, HeaderRow}
@@ -13,11 +12,8 @@ use Rattle.params.specs.Answer.{Span, span, onward}
 use Rattle.parts.specs.Part.{parts_of}
 use Rattle.index.specs.declared.Ids.{Ids}
 use Rattle.lookup.specs.Lookup.{bytes_between, span_fine, kind_in, row_for}
-
--- an answer that is good, changed by f; a refusal as it is
-abbrev pub good_by : {A B : Type 0} → (A → B) → Told A → Told B
-good_by f (good a) = good (f a)
-good_by f (bad q) = bad q
+-- an answer that is good, changed by a function; a refusal as it is
+pub use Rattle.statement.specs.Rows.{mapped as good_by}
 
 -- whether two kinds are the same
 abbrev pub same_kind : Kind → Kind → Bool
@@ -55,8 +51,8 @@ seen_record_of s w =
 
 -- the record of a row that was looked up, or none
 abbrev pub seen_record_found : List ℕ → Option Row → Told (Option SeenRecord)
-seen_record_found s none = good none
-seen_record_found s (some w) = good_by some (seen_record_of s w)
+seen_record_found s None = good None
+seen_record_found s (Some w) = good_by Some (seen_record_of s w)
 
 -- the record that an id names, by a lookup that gives its row
 unfoldable pub find_of : List ℕ → (ℕ → Option Row) → ℕ → Told (Option SeenRecord)
@@ -72,9 +68,9 @@ on_record f s rows slots ids w = onward (f s (table_find s rows slots ids)) (see
 
 -- the arguments of the first part of a kind, or none
 abbrev pub first_unit_part : Kind → List UnitPart → Option Span
-first_unit_part k [] = none
-first_unit_part k (p ∷ ps) = pick (same_kind p.kind k) (some p.run) (first_unit_part k ps)
+first_unit_part k [] = None
+first_unit_part k (p ∷ ps) = pick (same_kind p.kind k) (Some p.run) (first_unit_part k ps)
 
 -- the arguments of a record of a kind, or of a complex record's first part of that kind, once all its parts have been read
 abbrev pub self_or : Kind → SeenRecord → Told (Option Span)
-self_or k t = pick (same_kind t.kind k) (good (some t.run)) (good_by (first_unit_part k) t.parts)
+self_or k t = pick (same_kind t.kind k) (good (Some t.run)) (good_by (first_unit_part k) t.parts)

@@ -1,8 +1,7 @@
 -- Document 01, 'Units': what the arguments of one unit and of one measure say. Factors are patterns of f64s. Assumes nothing.
 -- Definitions to be believed: no law, and nothing computed that no theorem ties (docs/BELIEVE.md).
-use Rattle.std.specs.Prelude.{ℕ, List, []}
+use Rattle.std.specs.Prelude.{ℕ, List, [], Option, Some, None, option_map}
 use Prim.Native.String.{String}
-use Rattle.std.proofs.Math.Option.{Option, none, some}
 use Rattle.common.specs.Pick.{pick}
 use Rattle.error.specs.Refusal.{Told, good, bad}
 use Rattle.nearest.specs.Product.{product}
@@ -39,7 +38,7 @@ unit_in other s r = name_or (bytes other) s (next_unit_name s (next_unit_name s 
 
 -- the factor f where an SI unit has the name: "another name no factor; all in either case"
 abbrev pub factor_if_named : String → List ℕ → Span → ℕ → Option ℕ
-factor_if_named name s r f = pick (is_word (unit_in name s r) (bytes name)) (some f) none
+factor_if_named name s r f = pick (is_word (unit_in name s r) (bytes name)) (Some f) None
 
 -- the factor of an SI length unit: "Length in mm: 1000.0 times the prefix factor, one rounding."
 unfoldable pub si_length : List ℕ → Span → Option ℕ
@@ -56,13 +55,13 @@ measure_ref s r = onward (λ u. (next_of reference_of s (skip_of s r.start r.sto
 
 -- an option taken apart: `other` for none, and k of what it holds
 abbrev pub option_by : {A B : Type 0} → B → (A → B) → Option A → B
-option_by other k none = other
-option_by other k (some a) = k a
+option_by other k None = other
+option_by other k (Some a) = k a
 
 -- a factor times a measure's number: "value times base factor", where the base has one
 abbrev pub scaled_by : ℕ → Told (Option ℕ) → Told (Option ℕ)
-scaled_by v a = good_by (option_by none (λ f. some (product v f))) a
+scaled_by v a = good_by (option_map (product v)) a
 
 -- the measure's arguments: "a complex length measure lacking a LENGTH_MEASURE_WITH_UNIT part" has none; any simple record has its own
 abbrev pub measure_run : SeenRecord → Told (Option Span)
-measure_run t = pick (same_kind t.kind Complex) (good_by (first_unit_part LengthMeasureWithUnit) t.parts) (good (some t.run))
+measure_run t = pick (same_kind t.kind Complex) (good_by (first_unit_part LengthMeasureWithUnit) t.parts) (good (Some t.run))

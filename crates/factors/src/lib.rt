@@ -5,334 +5,246 @@
 // each other, the count of conversion units that are left falling.
 #![tactic(auto)]
 
-ghost use Rattle.std.specs.Prelude.{◌≡◌};
+ghost use Rattle.std.specs.Prelude.{◌≡◌, ◌≤◌, length, option_map};
 ghost use Rattle.std.specs.Float.{binary64};
 ghost use Rattle.std.specs.Float.Ieee.{to_bits};
-ghost use Rattle.error.specs.Refusal.{good};
+ghost use Rattle.error.specs.Refusal.{told_result};
+ghost use Rattle.nearest.specs.Product.{product};
 ghost use Rattle.statement.specs.Rows.{told_row};
 ghost use Rattle.params.specs.Answer.{onward, span};
-ghost use Rattle.scalars.specs.Answer.{told_next_real};
-ghost use Rattle.words.specs.Answer.{told_next_name};
-ghost use Rattle.factors.specs.SeenRecords.{seen_record_of, self_or, table_find, on_record};
-ghost use Rattle.factors.specs.Factor.{conversion_of, link_of, angle_of, angle_number, unread_of, measure_left, number_ahead};
+ghost use Rattle.scalars.specs.Scalars.{measure_of};
+ghost use Rattle.scalars.specs.Answer.{next_of};
+ghost use Rattle.lookup.specs.Lookup.{row_for};
+ghost use Rattle.parts.specs.Part.{part_of};
+ghost use Rattle.factors.specs.SeenRecords.{seen_record_of, self_or};
+ghost use Rattle.factors.specs.Factor.{angle_of, angle_number, measure_left, number_or_none};
 ghost use Rattle.factors.specs.Left.{length_left};
-ghost use Rattle.factors.specs.Unit.{si_length, si_angle, measure_ref, measure_run, scaled_by};
-ghost use Rattle.factors.specs.Code.{told_id, told_link, named_in, is_named};
+ghost use Rattle.factors.specs.Unit.{name_or, si_length, si_angle, measure_ref, measure_run};
+ghost use Rattle.factors.specs.Code.{NameIn, prefix_for, run_of, seen_unit, find_in, on_record_in};
 ghost use Rattle.factors.specs.Answer.{told_arguments, told_factor};
 
 use error::Fault;
 use kinds::Kind;
-use lookup::{Entry, Spanned, Tables};
-use params::{Skipped, State};
-use parts::Next;
-use scalars::{NextReal, NextRef};
-use statement::RecordSpan;
-use words::NextName;
+use lookup::Tables;
+use params::{Span, State};
+use statement::{Range, RecordSpan};
 
-// Arguments from a place up to an end; or none; or why they cannot be told.
+// A file and the tables of its records, which are looked up by id.
 #[derive(Clone, Copy)]
-pub enum ArgumentsFound {
-    Args(usize, usize),
-    Nothing,
-    Refused(Fault),
+pub struct Records<'a> {
+    pub file: &'a [u8],
+    pub rows: &'a [u32],
+    pub slots: &'a [u64],
+    pub tables: Tables,
 }
 
-// A factor; or none; or why the whole answer is refused.
+// What a record is as a unit, with the arguments that say it.
 #[derive(Clone, Copy)]
-pub enum Factor {
-    Is(f64),
-    Nothing,
-    Refused(Fault),
+enum UnitArgs {
+    Si(Range),
+    Conversion(Range),
 }
 
-// A factor, or the id of the measure that a conversion unit leads to.
-#[derive(Clone, Copy)]
-enum Link {
-    Known(Factor),
-    Measure(u32),
+impl Records<'_> {
+    // The last record with this id, or none.
+    pub fn get(self, id: u32) -> Option<RecordSpan>
+        ensures { option_map told_row result ≡ row_for self.entry.rows.now self.entry.slots.now self.entry.tables.ids id }
+    {
+        lookup::get(self.rows, self.slots, self.tables, id)
+    }
 }
 
-// An id, or a refusal.
-#[derive(Clone, Copy)]
-enum Named {
-    Id(u32),
-    Refused(Fault),
+// A reader of arguments.
+pub fn reader(args: Range) -> State
+    ensures { result ≡ record { place = args.start; end = args.end } }
+{
+    State {
+        place: args.start,
+        end: args.end,
+    }
+}
+
+// The arguments of the first part of a kind of the record whose arguments these are.
+fn part_args(file: &[u8], args: Range, complex: u32, kind: Kind) -> Result<Option<Range>, Fault>
+    ensures { told_arguments result ≡ run_of (part_of file.now args.start args.end complex kind) }
+{
+    let part = parts::complex_part(file, args.start, args.end, complex, kind)?;
+    Ok(part.map(|p| p.args))
 }
 
 // The arguments of a record of a kind, or of its first part of that kind.
-pub fn self_or(file: &[u8], row: RecordSpan, kind: Kind) -> ArgumentsFound
+pub fn self_or(file: &[u8], row: RecordSpan, kind: Kind) -> Result<Option<Range>, Fault>
     ensures { told_arguments result ≡ onward (self_or kind) (seen_record_of file.now (told_row row)) }
 {
-    let Spanned::Span(a) = lookup::args_of(file, row) else {
-        return ArgumentsFound::Refused(Fault::OutOfFile);
-    };
-    if kinds::same_kind(lookup::kind_in(file, row), kind) {
-        return ArgumentsFound::Args(a.start, a.end);
+    let args = lookup::args_of(file, row)?;
+    if lookup::kind_in(file, row) == kind {
+        return Ok(Some(args));
     }
-    match parts::complex_part(file, a.start, a.end, row.complex, kind) {
-        Next::Is(p) => ArgumentsFound::Args(p.args.start, p.args.end),
-        Next::Over => ArgumentsFound::Nothing,
-        Next::Refused(f) => ArgumentsFound::Refused(f),
+    part_args(file, args, row.complex, kind)
+}
+
+// The arguments of a length measure: of a complex record its LENGTH_MEASURE_WITH_UNIT part, of a simple one its own.
+fn measure_run(file: &[u8], row: RecordSpan) -> Result<Option<Range>, Fault>
+    ensures { told_arguments result ≡ onward measure_run (seen_record_of file.now (told_row row)) }
+{
+    let args = lookup::args_of(file, row)?;
+    if row.complex != 1 {
+        return Ok(Some(args));
+    }
+    part_args(file, args, 1, Kind::LengthMeasureWithUnit)
+}
+
+// What a record is as a unit: an SI part goes before a conversion.
+fn unit_at(file: &[u8], row: RecordSpan) -> Result<Option<UnitArgs>, Fault>
+    ensures { told_result result ≡ onward seen_unit (seen_record_of file.now (told_row row)) }
+{
+    if let Some(args) = self_or(file, row, Kind::SiUnit)? {
+        return Ok(Some(UnitArgs::Si(args)));
+    }
+    let conversion = self_or(file, row, Kind::ConversionBasedUnit)?;
+    Ok(conversion.map(|args| UnitArgs::Conversion(args)))
+}
+
+// The bytes of a name; others where it is unreadable.
+fn name_or<'a>(other: &'a [u8], file: &'a [u8], name: Result<Span, Fault>) -> &'a [u8]
+    requires { NameIn (length file.now) name }
+    ensures { result.now ≡ name_or other.now file.now (told_result name) }
+{
+    match name {
+        Ok(n) => &file[n.start..n.stop],
+        Err(_) => other,
     }
 }
 
-// Where the reader stands after a name, or after what is none.
-fn after(n: NextName) -> State
-    ensures { (result.place ≡ (told_next_name n).place) × (result.end ≡ (told_next_name n).end) }
+// The prefix of the SI unit whose arguments these are, where the unit has this name, letters in either case. An unreadable prefix is
+// none, an unreadable name the one that is sought.
+fn si_prefix<'a>(file: &'a [u8], args: Range, name: &[u8]) -> Option<&'a [u8]>
+    ensures { option_map (λ p. p.now) result ≡ prefix_for file.now (span args.start args.end) name.now }
 {
-    match n {
-        NextName::Name(_, _, to) => to,
-        NextName::Refused(_, to) => to,
+    let mut at = reader(args);
+    let prefix = words::next_enum(file, &mut at);
+    let unit = words::next_enum(file, &mut at);
+    if !record::is_word(name_or(name, file, unit), name) {
+        return None;
     }
+    Some(name_or(b"", file, prefix))
 }
 
-// The bytes of a name; none where it is unreadable.
-fn name_in<'a>(file: &'a [u8], n: NextName) -> &'a [u8]
-    ensures { result.now ≡ named_in file.now n }
+// The factor of the SI unit of length whose arguments these are.
+fn si_length(file: &[u8], args: Range) -> Option<f64>
+    ensures { option_map (to_bits binary64) result ≡ si_length file.now (span args.start args.end) }
 {
-    match n {
-        NextName::Name(a, z, _) => {
-            if (a <= z) & (z <= file.len()) {
-                return &file[a..z];
-            }
-            return &file[..0];
-        }
-        NextName::Refused(_, _) => {
-            return &file[..0];
-        }
-    }
+    let prefix = si_prefix(file, args, b"METRE")?;
+    Some(prefixes::length_factor(prefix))
 }
 
-// Whether a unit has this name, letters in either case; one whose name is unreadable has it.
-fn is_named(file: &[u8], n: NextName, name: &[u8]) -> bool
-    ensures { result ≡ is_named file.now n name.now }
+// The factor of the SI unit of angle.
+fn si_angle(file: &[u8], args: Range) -> Option<f64>
+    ensures { option_map (to_bits binary64) result ≡ si_angle file.now (span args.start args.end) }
 {
-    match n {
-        NextName::Refused(_, _) => true,
-        NextName::Name(_, _, _) => record::is_word(name_in(file, n), name),
-    }
-}
-
-// The factor of the SI unit whose arguments run from a up to z: none where its name is not METRE, letters in either case. An unreadable
-// prefix is none, an unreadable name METRE.
-fn si_length(file: &[u8], a: usize, z: usize) -> Factor
-    ensures { told_factor result ≡ good (si_length file.now (span a z)) }
-{
-    let first = words::next_enum(file, State { place: a, end: z });
-    let second = words::next_enum(file, after(first));
-    if !is_named(file, second, b"METRE") {
-        return Factor::Nothing;
-    }
-    Factor::Is(prefixes::length_factor(name_in(file, first)))
-}
-
-// The same for RADIAN.
-fn si_angle(file: &[u8], a: usize, z: usize) -> Factor
-    ensures { told_factor result ≡ good (si_angle file.now (span a z)) }
-{
-    let first = words::next_enum(file, State { place: a, end: z });
-    let second = words::next_enum(file, after(first));
-    if !is_named(file, second, b"RADIAN") {
-        return Factor::Nothing;
-    }
-    Factor::Is(prefixes::prefix_factor(name_in(file, first)))
+    let prefix = si_prefix(file, args, b"RADIAN")?;
+    Some(prefixes::prefix_factor(prefix))
 }
 
 // The reference of the measure in the arguments of a conversion unit, behind its name.
-fn measure_ref(file: &[u8], a: usize, z: usize) -> Named
-    ensures { told_id result ≡ measure_ref file.now (span a z) }
+fn measure_ref(file: &[u8], args: Range) -> Result<u32, Fault>
+    ensures { told_result result ≡ measure_ref file.now (span args.start args.end) }
 {
-    match params::skip(file, State { place: a, end: z }) {
-        Skipped::Refused(f, _) => Named::Refused(f),
-        Skipped::Past(to) => match scalars::next_ref(file, to) {
-            NextRef::Refused(f, _) => Named::Refused(f),
-            NextRef::Value(id, _) => Named::Id(id),
-        },
-    }
+    let mut at = reader(args);
+    params::skip(file, &mut at)?;
+    scalars::next_ref(file, &mut at)
 }
 
-// No factor for a number that is unreadable; but a real outside the class refuses.
-fn unread(n: NextReal) -> Factor
-    ensures { told_factor result ≡ unread_of (told_next_real n).answer }
+// The number of a measure: none where it is unreadable; but a real outside the class refuses.
+pub fn measure_number(file: &[u8], at: &mut State) -> Result<Option<f64>, Fault>
+    ensures number { told_factor result ≡ number_or_none (next_of measure_of file.now at.old.place at.old.end).answer }
+    ensures at_after { (at.new.place ≡ (next_of measure_of file.now at.old.place at.old.end).place) × (at.new.end ≡ at.old.end) }
 {
-    match n {
-        NextReal::Value(_, _) => Factor::Nothing,
-        NextReal::Refused(f, _) => {
-            if error::number(f) == 13 {
-                return Factor::Refused(f);
-            }
-            Factor::Nothing
-        }
+    match scalars::next_measure_f64(file, at) {
+        Ok(number) => Ok(Some(number)),
+        Err(fault) => match fault {
+            Fault::OutsideClass(_) => Err(fault),
+            _ => Ok(None),
+        },
     }
 }
 
 // A value times a factor, where there is one.
-fn scaled(v: f64, f: Factor) -> Factor
-    ensures { told_factor result ≡ scaled_by (to_bits binary64 v) (told_factor f) }
+fn scaled(value: f64, factor: Option<f64>) -> Option<f64>
+    ensures { option_map (to_bits binary64) result ≡ option_map (product (to_bits binary64 value)) (option_map (to_bits binary64) factor) }
 {
-    match f {
-        Factor::Is(x) => Factor::Is(nearest::times(v, x)),
-        Factor::Nothing => Factor::Nothing,
-        Factor::Refused(q) => Factor::Refused(q),
-    }
+    factor.map(|f| nearest::times(value, f))
 }
 
-// The arguments of a length measure: of a complex record its LENGTH_MEASURE_WITH_UNIT part, of a simple one its own.
-fn measure_run(file: &[u8], row: RecordSpan) -> ArgumentsFound
-    ensures { told_arguments result ≡ onward measure_run (seen_record_of file.now (told_row row)) }
-{
-    let Spanned::Span(a) = lookup::args_of(file, row) else {
-        return ArgumentsFound::Refused(Fault::OutOfFile);
-    };
-    if row.complex != 1 {
-        return ArgumentsFound::Args(a.start, a.end);
-    }
-    match parts::complex_part(file, a.start, a.end, 1, Kind::LengthMeasureWithUnit) {
-        Next::Is(p) => ArgumentsFound::Args(p.args.start, p.args.end),
-        Next::Over => ArgumentsFound::Nothing,
-        Next::Refused(f) => ArgumentsFound::Refused(f),
-    }
-}
-
-// One unit of a chain, with so many conversion units left: its factor, or the id of the measure that it leads to. The conversion unit
-// for which none is left is 15, before its name.
-fn link_at(file: &[u8], row: RecordSpan, left: usize) -> Link
-    ensures { told_link result ≡ onward (link_of file.now left) (seen_record_of file.now (told_row row)) }
-{
-    match self_or(file, row, Kind::SiUnit) {
-        ArgumentsFound::Refused(f) => Link::Known(Factor::Refused(f)),
-        ArgumentsFound::Args(a, z) => Link::Known(si_length(file, a, z)),
-        ArgumentsFound::Nothing => match self_or(file, row, Kind::ConversionBasedUnit) {
-            ArgumentsFound::Refused(f) => Link::Known(Factor::Refused(f)),
-            ArgumentsFound::Nothing => Link::Known(Factor::Nothing),
-            ArgumentsFound::Args(a, z) => conversion_at(file, row, a, z, left),
-        },
-    }
-}
-
-// The conversion unit of a record whose conversion arguments run from a up to z.
-fn conversion_at(file: &[u8], row: RecordSpan, a: usize, z: usize, left: usize) -> Link
-    ensures { told_link result ≡ conversion_of file.now left row.args.start (span a z) }
-{
-    if left == 0 {
-        return Link::Known(Factor::Refused(Fault::TooDeep(row.args.start)));
-    }
-    match measure_ref(file, a, z) {
-        Named::Refused(f) => Link::Known(Factor::Refused(f)),
-        Named::Id(id) => Link::Measure(id),
-    }
-}
-
-// The factor of a length unit, with so many conversion units left on the chain: "A conversion unit leads to a measure".
+// The factor of a length unit, with so many conversion units left on the chain: "A conversion unit leads to a measure". The one for
+// which none is left is 15, before its name.
 #[cycle(length_at_measure_in_mm)]
-fn length_at(
-    file: &[u8],
-    rows: &[u32],
-    slots: &[u64],
-    t: Tables,
-    row: RecordSpan,
-    left: usize,
-) -> Factor
-    ensures { told_factor result ≡ on_record (length_left left) file.now rows.now slots.now t.ids (told_row row) }
+fn length_at(records: Records, row: RecordSpan, left: usize) -> Result<Option<f64>, Fault>
+    ensures { told_factor result ≡ on_record_in (length_left left) records.entry (told_row row) }
 {
-    match link_at(file, row, left) {
-        Link::Known(f) => f,
-        Link::Measure(id) => measure_in_mm(file, rows, slots, t, id, left - 1),
+    match unit_at(records.file, row)? {
+        None => Ok(None),
+        Some(UnitArgs::Si(args)) => Ok(si_length(records.file, args)),
+        Some(UnitArgs::Conversion(args)) => {
+            if left == 0 {
+                return Err(Fault::TooDeep(row.args.start));
+            }
+            let id = measure_ref(records.file, args)?;
+            measure_in_mm(records, id, left - 1)
+        }
     }
 }
 
 // The factor of a length measure: "and the measure to its base unit, value times base factor".
 #[cycle(length_at_measure_in_mm)]
-fn measure_in_mm(
-    file: &[u8],
-    rows: &[u32],
-    slots: &[u64],
-    t: Tables,
-    id: u32,
-    left: usize,
-) -> Factor
-    ensures { told_factor result ≡ measure_left left file.now (table_find file.now rows.now slots.now t.ids) id }
+fn measure_in_mm(records: Records, id: u32, left: usize) -> Result<Option<f64>, Fault>
+    ensures { told_factor result ≡ measure_left left records.entry.file.now (find_in records.entry) id }
 {
-    let Entry::Row(w) = lookup::get(rows, slots, t, id) else {
-        return Factor::Nothing;
+    let Some(measure) = records.get(id) else {
+        return Ok(None);
     };
-    match measure_run(file, w) {
-        ArgumentsFound::Refused(f) => Factor::Refused(f),
-        ArgumentsFound::Nothing => Factor::Nothing,
-        ArgumentsFound::Args(a, z) => {
-            let number = scalars::next_measure_f64(file, State { place: a, end: z });
-            let NextReal::Value(v, to) = number else {
-                return unread(number);
-            };
-            let NextRef::Value(base, _) = scalars::next_ref(file, to) else {
-                return Factor::Nothing;
-            };
-            let Entry::Row(b) = lookup::get(rows, slots, t, base) else {
-                return Factor::Nothing;
-            };
-            scaled(v, length_at(file, rows, slots, t, b, left))
-        }
-    }
+    let Some(args) = measure_run(records.file, measure)? else {
+        return Ok(None);
+    };
+    let mut at = reader(args);
+    let Some(number) = measure_number(records.file, &mut at)? else {
+        return Ok(None);
+    };
+    let Ok(base) = scalars::next_ref(records.file, &mut at) else {
+        return Ok(None);
+    };
+    let Some(unit) = records.get(base) else {
+        return Ok(None);
+    };
+    let factor = length_at(records, unit, left)?;
+    Ok(scaled(number, factor))
 }
 
 // The factor of a length unit, in millimetres.
-pub fn length_factor(file: &[u8], rows: &[u32], slots: &[u64], t: Tables, row: RecordSpan) -> Factor
-    ensures { told_factor result ≡ on_record (length_left 16) file.now rows.now slots.now t.ids (told_row row) }
+pub fn length_factor(records: Records, row: RecordSpan) -> Result<Option<f64>, Fault>
+    ensures { told_factor result ≡ on_record_in (length_left 16) records.entry (told_row row) }
 {
-    length_at(file, rows, slots, t, row, 16)
+    length_at(records, row, 16)
 }
 
 // The number of an angle's measure, alone.
-fn measure_number(file: &[u8], rows: &[u32], slots: &[u64], t: Tables, id: u32) -> Factor
-    ensures { told_factor result ≡ angle_number file.now (table_find file.now rows.now slots.now t.ids) id }
+fn angle_number(records: Records, id: u32) -> Result<Option<f64>, Fault>
+    ensures { told_factor result ≡ angle_number records.entry.file.now (find_in records.entry) id }
 {
-    let Entry::Row(w) = lookup::get(rows, slots, t, id) else {
-        return Factor::Nothing;
+    let Some(measure) = records.get(id) else {
+        return Ok(None);
     };
-    let Spanned::Span(a) = lookup::args_of(file, w) else {
-        return Factor::Refused(Fault::OutOfFile);
-    };
-    let number = scalars::next_measure_f64(
-        file,
-        State {
-            place: a.start,
-            end: a.end,
-        },
-    );
-    let NextReal::Value(v, _) = number else {
-        return unread(number);
-    };
-    Factor::Is(v)
-}
-
-// The factor of the conversion unit whose arguments run from a up to z, for an angle.
-fn angle_converted(
-    file: &[u8],
-    rows: &[u32],
-    slots: &[u64],
-    t: Tables,
-    a: usize,
-    z: usize,
-) -> Factor
-    ensures { told_factor result ≡ number_ahead file.now (table_find file.now rows.now slots.now t.ids) (span a z) }
-{
-    match measure_ref(file, a, z) {
-        Named::Refused(f) => Factor::Refused(f),
-        Named::Id(id) => measure_number(file, rows, slots, t, id),
-    }
+    let mut at = reader(lookup::args_of(records.file, measure)?);
+    measure_number(records.file, &mut at)
 }
 
 // The factor of an angle unit, in radians.
-pub fn angle_factor(file: &[u8], rows: &[u32], slots: &[u64], t: Tables, row: RecordSpan) -> Factor
-    ensures { told_factor result ≡ on_record angle_of file.now rows.now slots.now t.ids (told_row row) }
+pub fn angle_factor(records: Records, row: RecordSpan) -> Result<Option<f64>, Fault>
+    ensures { told_factor result ≡ on_record_in angle_of records.entry (told_row row) }
 {
-    match self_or(file, row, Kind::SiUnit) {
-        ArgumentsFound::Refused(f) => Factor::Refused(f),
-        ArgumentsFound::Args(a, z) => si_angle(file, a, z),
-        ArgumentsFound::Nothing => match self_or(file, row, Kind::ConversionBasedUnit) {
-            ArgumentsFound::Refused(f) => Factor::Refused(f),
-            ArgumentsFound::Nothing => Factor::Nothing,
-            ArgumentsFound::Args(a, z) => angle_converted(file, rows, slots, t, a, z),
-        },
+    match unit_at(records.file, row)? {
+        None => Ok(None),
+        Some(UnitArgs::Si(args)) => Ok(si_angle(records.file, args)),
+        Some(UnitArgs::Conversion(args)) => angle_number(records, measure_ref(records.file, args)?),
     }
 }

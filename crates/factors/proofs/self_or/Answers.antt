@@ -1,33 +1,24 @@
-use mathlib.Core.Path.{sym, ◌∙◌, ap}
-use lib.Dec.{eqb}
+use Rattle.std.proofs.Common.{sym, ◌∙◌, ap, ◌≡◌, rules, eq-eqb, ne_eqb}
+use Rattle.std.proofs.lemmas.Result.{err_from_is_err_and}
+use Rattle.kinds.specs.Kind.{rank_one}
 use Rattle.kinds.specs.Rules.{rank_of}
-use Rattle.kinds.specs.declared.Kind.{Kind}
 use Rattle.statement.specs.Rows.{told_row}
-use Rattle.lookup.specs.Lookup.{told_span}
-use Rattle.parts.specs.Rules.{told_next}
 use Rattle.factors.specs.SeenRecords.{self_or}
 use Rattle.factors.specs.Laws.{seen_record_out, self_own, self_part}
 use Rattle.factors.proofs.self_or.Goals as goal
 
-pub returns-in_default : goal.returns-in_default
-returns-in_default c = let a = c.args in seen_record_out (self_or a.kind) a.file.now (told_row a.row) (ap told_span (sym c.in_default.is) ∙ c.args_of.ensures)
+pub returns-in_err-args : goal.returns-in_err-args
+returns-in_err-args c =
+    let p = err_from_is_err_and c.from_residual.result c.from_residual.ensures.1 in
+    rw (p.1, p.2) (seen_record_out (self_or c.args.kind) c.args.file.now (told_row c.args.row) c.in_err-args.ensures)
 
-pub returns-then-same_kind : goal.returns-then-same_kind
-returns-then-same_kind c = let a = c.args in
-    let k = ap (λ (x : Kind). eqb (rank_of x) (rank_of a.kind)) (sym c.kind_in.ensures) ∙ sym c.same_kind.ensures ∙ c.if-same_kind.true in
-    self_own a.file.now (told_row a.row) (ap told_span (sym c.in-Span.is) ∙ c.args_of.ensures) a.kind k
+pub returns-then-eq : goal.returns-then-eq
+returns-then-eq c =
+    let same : c.kind_in.result ≡ c.args.kind = search rules in
+    self_own c.args.file.now (told_row c.args.row) c.in_ok-args.ensures c.args.kind (eq-eqb _ _ (ap rank_of (sym c.kind_in.ensures ∙ same)))
 
-pub returns-in-Is : goal.returns-in-Is
-returns-in-Is c = let a = c.args in
-    let k = ap (λ (x : Kind). eqb (rank_of x) (rank_of a.kind)) (sym c.kind_in.ensures) ∙ sym c.same_kind.ensures ∙ c.if-same_kind.false in
-    self_part a.file.now (told_row a.row) (ap told_span (sym c.in-Span.is) ∙ c.args_of.ensures) a.kind k (ap told_next (sym c.in-Is.is) ∙ c.complex_part.ensures)
-
-pub returns-in-Over : goal.returns-in-Over
-returns-in-Over c = let a = c.args in
-    let k = ap (λ (x : Kind). eqb (rank_of x) (rank_of a.kind)) (sym c.kind_in.ensures) ∙ sym c.same_kind.ensures ∙ c.if-same_kind.false in
-    self_part a.file.now (told_row a.row) (ap told_span (sym c.in-Span.is) ∙ c.args_of.ensures) a.kind k (ap told_next (sym c.in-Over.is) ∙ c.complex_part.ensures)
-
-pub returns-in-Refused : goal.returns-in-Refused
-returns-in-Refused c = let a = c.args in
-    let k = ap (λ (x : Kind). eqb (rank_of x) (rank_of a.kind)) (sym c.kind_in.ensures) ∙ sym c.same_kind.ensures ∙ c.if-same_kind.false in
-    self_part a.file.now (told_row a.row) (ap told_span (sym c.in-Span.is) ∙ c.args_of.ensures) a.kind k (ap told_next (sym c.in-Refused.is) ∙ c.complex_part.ensures)
+pub returns : goal.returns
+returns c =
+    let other : c.kind_in.result ≡ c.args.kind → ⊥ = search rules in
+    c.part_args.ensures
+    ∙ self_part c.args.file.now (told_row c.args.row) c.in_ok-args.ensures c.args.kind (ne_eqb _ _ (λ e. other (c.kind_in.ensures ∙ rank_one _ _ e)))

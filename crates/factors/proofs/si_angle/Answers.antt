@@ -1,10 +1,16 @@
-use mathlib.Core.Path.{sym, ◌∙◌, ap}
+use Rattle.std.proofs.Common.{◌∙◌, ◌≡◌, ap, rules, Some, None, option_map}
 use Rattle.prefixes.specs.Prefix.{factor_of}
-use Rattle.factors.specs.Laws.{angle_other, angle_is}
+use Rattle.params.specs.Answer.{span}
+use Rattle.factors.specs.Laws.{angle_prefix}
 use Rattle.factors.proofs.si_angle.Goals as goal
 
-pub returns-then-not-is_named : goal.returns-then-not-is_named
-returns-then-not-is_named c = let a = c.args in angle_other a.file.now a.a a.z c.next_enum-first.result c.next_enum-second.result c.next_enum-first.ensures c.after.ensures.0 c.after.ensures.1 c.next_enum-second.ensures (sym c.is_named.ensures ∙ c.if-not-is_named.true)
+pub returns-in_err-prefix : goal.returns-in_err-prefix
+returns-in_err-prefix c =
+    let e : c.from_residual.result ≡ None = search rules in
+    rw e (ap (option_map factor_of) c.in_err-prefix.ensures ∙ angle_prefix c.args.file.now (span c.args.args.start c.args.args.end))
 
 pub returns : goal.returns
-returns c = let a = c.args in angle_is a.file.now a.a a.z c.next_enum-first.result c.next_enum-second.result c.next_enum-first.ensures c.after.ensures.0 c.after.ensures.1 c.next_enum-second.ensures (sym c.is_named.ensures ∙ c.if-not-is_named.false) (c.prefix_factor.ensures ∙ ap factor_of c.name_in.ensures)
+returns c =
+    ap Some c.prefix_factor.ensures
+    ∙ ap (option_map factor_of) c.in_ok-prefix.ensures
+    ∙ angle_prefix c.args.file.now (span c.args.args.start c.args.args.end)
