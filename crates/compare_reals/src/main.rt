@@ -9,19 +9,6 @@ use input::Feed;
 use printing::{Line, Pen};
 use reals::{NotRead, Reals};
 
-// The patterns of what is printed, by their place in both tables. NOTHING is in none, and LONG and FAILED are in the second alone.
-const VALUE: usize = 1;
-
-const NOT_REAL: usize = 2;
-
-const OUTSIDE: usize = 3;
-
-const LONG: usize = 4;
-
-const FAILED: usize = 5;
-
-const NOTHING: usize = 6;
-
 // Answers the lines: all of them, or as many as 64 bits count.
 fn main(rt: HostRuntime) {
     let mut from = rt.stdin();
@@ -31,6 +18,7 @@ fn main(rt: HostRuntime) {
     let mut feed = input::start();
     let mut pen = printing::fresh();
     let mut left = u64::MAX;
+    // Kept: what is left is what `input::left` answers, 0 at the input's end, so no range counts it.
     while left > 0 {
         feed = input::pass(
             &mut from,
@@ -46,68 +34,40 @@ fn main(rt: HostRuntime) {
     printing::finish(&rt, &out, pen);
 }
 
-// Puts both answers to a line.
+// Puts both answers to a line, or what stands for both. Where none is left, there was no line.
 fn both<R: Print>(rt: &R, out: &mut [u8], pen: Pen, line: &[u8], feed: Feed, left: u64) -> Pen {
-    let first = firsts();
-    let second = seconds();
-    let last = printing::form(
-        rt,
-        out,
-        pen,
-        &first,
-        &first,
-        said(Reals::Class, line, feed, left),
-    );
-    printing::form(
-        rt,
-        out,
-        last,
-        &second,
-        &second,
-        said(Reals::Any, line, feed, left),
-    )
-}
-
-// What the first answer to a line puts.
-fn firsts() -> [u8; 11] {
-    *b"%x \n\
-        12 \n\
-        13 "
-}
-
-// What the second does, and what stands for both.
-fn seconds() -> [u8; 74] {
-    *b"%x%n\n\
-        12%n\n\
-        13%n\n\
-        too long for this program%n\n\
-        standard input cannot be read%n"
-}
-
-// What is said of a line by one of the two readings. Where none is left, there was no line.
-fn said(which: Reals, line: &[u8], feed: Feed, left: u64) -> Line {
     if left == 0 {
-        return put(if feed.failed == 0 { NOTHING } else { FAILED }, 0);
+        return if feed.failed == 0 {
+            pen
+        } else {
+            printing::bytes(rt, out, pen, b"standard input cannot be read\n")
+        };
     }
     let count = feed.count;
     if count > line.len() {
-        return put(LONG, 0);
+        return printing::bytes(rt, out, pen, b"too long for this program\n");
     }
-    answer(which, &line[..count])
+    let t = &line[..count];
+    let mut last = answer(rt, out, pen, reals::read_real(Reals::Class, t));
+    last = printing::byte(rt, out, last, b' ');
+    last = answer(rt, out, last, reals::read_real(Reals::Any, t));
+    printing::byte(rt, out, last, b'\n')
 }
 
-fn answer(which: Reals, t: &[u8]) -> Line {
-    match reals::read_real(which, t) {
-        Ok(x) => put(VALUE, nearest::bits(x)),
-        Err(NotRead::Outside) => put(OUTSIDE, 0),
-        Err(NotRead::NotReal) => put(NOT_REAL, 0),
+// Puts the answer of one reading.
+fn answer<R: Print>(rt: &R, out: &mut [u8], pen: Pen, read: Result<f64, NotRead>) -> Pen {
+    match read {
+        Ok(x) => printing::form(rt, out, pen, b"%x\n", b"", number(nearest::bits(x))),
+        Err(NotRead::Outside) => printing::bytes(rt, out, pen, b"13"),
+        Err(NotRead::NotReal) => printing::bytes(rt, out, pen, b"12"),
     }
 }
 
-fn put(pattern: usize, bits: u64) -> Line {
+// The first pattern, with a number in it.
+fn number(a: u64) -> Line {
     Line {
-        pattern,
-        a: bits,
+        pattern: 1,
+        a,
         b: 0,
         c: 0,
         d: 0,
