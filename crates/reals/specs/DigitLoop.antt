@@ -114,21 +114,34 @@ four_at_lem t i v a e = record {
 abbrev pub eight_from : List ℕ → ℕ → List ℕ
 eight_from t i = get_or t i 0 ∷ get_or t (i + 1) 0 ∷ get_or t (i + 2) 0 ∷ get_or t (i + 3) 0 ∷ get_or t (i + 4) 0 ∷ get_or t (i + 5) 0 ∷ get_or t (i + 6) 0 ∷ get_or t (i + 7) 0 ∷ []
 
--- eight digits stand at the place, or nothing is said
-abbrev pub EightAt : List ℕ → ℕ → Option ℕ → Type 0
-EightAt t at (Some v) = DigitsAt t at 8 v
-EightAt t at None = Unit {0}
+-- n digits stand at the place, or nothing is said
+abbrev pub RunAt : List ℕ → ℕ → ℕ → Option ℕ → Type 0
+RunAt t at n (Some v) = (at + n ≤ length t) × DigitsAt t at n v
+RunAt t at n None = Unit {0}
 
 -- what is told of the eight bytes at the place says whether eight digits stand there
-pub eight_at : (t : List ℕ) (i : ℕ) (x : Option ℕ) → EightTold (eight_from t i) x → EightAt t i x
-eight_at t i (Some v) h = record {
-  bytes = eight_from t i;
-  many = refl;
-  stand = (refl, (refl, (there t (omega arith), (there t (omega arith), (there t (omega arith), (there t (omega arith), (there t (omega arith), (there t (omega arith), tt))))))));
-  all = h.0;
-  makes = h.1;
-}
-eight_at t i None h = tt
+pub eight_at : (t : List ℕ) (i : ℕ) (x : Option ℕ) → i + 8 ≤ length t → EightTold (eight_from t i) x → RunAt t i 8 x
+eight_at t i (Some v) l h = (
+  l,
+  record {
+    bytes = eight_from t i;
+    many = refl;
+    stand = (refl, (refl, (there t (omega arith), (there t (omega arith), (there t (omega arith), (there t (omega arith), (there t (omega arith), (there t (omega arith), tt))))))));
+    all = h.0;
+    makes = h.1;
+  },
+)
+eight_at t i None l h = tt
+
+-- digits that may be put to a number: they are below the scale, and the place after them is a number
+abbrev pub RunFits : ℕ → ℕ → ℕ → Option ℕ → Type 0
+RunFits next n scale (Some v) = (v < scale) × (next + n < 2 ^ 64)
+RunFits next n scale None = Unit {0}
+
+-- n digits put to a number, held up to the cap; or the number as it is
+abbrev pub RunAdded : Number → ℕ → ℕ → ℕ → Option ℕ → Number → Type 0
+RunAdded d n scale cap (Some v) r = r ≡ record { value = min cap (d.value * scale + v); next = d.next + n }
+RunAdded d n scale cap None r = r ≡ d
 
 -- n digits make less than 10 ^ n
 value_lt : (bs : List ℕ) → All digit bs → value_of bs < 10 ^ length bs
@@ -239,6 +252,16 @@ module _ (t : List ℕ) (at from cap : ℕ) where
       subst (λ (k : ℕ). NumberReading t at from cap next (i + k)) d.many
       (reading_all d.bytes value i next (subst (λ (k : ℕ). i + k ≤ length t) (sym d.many) l) d.stand d.all
       (e ∙ ap (λ (k : ℕ). min cap (value * 10 ^ k + v)) (sym d.many) ∙ ap (λ (x : ℕ). min cap (value * 10 ^ length d.bytes + x)) d.makes) r)
+
+  -- n digits that stand where the reading is, or none, are read at once
+  pub run_read : (n : ℕ) (o : Option ℕ) (d r : Number) → RunAt t d.next n o → RunAdded d n (10 ^ n) cap o r → NumberReading t at from cap d.value d.next → NumberReading t at from cap r.value r.next
+  run_read n (Some v) d r h e g = subst (λ (q : Number). NumberReading t at from cap q.value q.next) (sym e) (number_reading_digits d.value d.next (min cap (d.value * 10 ^ n + v)) n v h.0 h.1 refl g)
+  run_read n None d r h e g = subst (λ (q : Number). NumberReading t at from cap q.value q.next) (sym e) g
+
+  -- n digits that stand where the reading is, or none, may be put to the number
+  pub run_fits : (n : ℕ) (o : Option ℕ) (d : Number) → length t < 2 ^ 63 → RunAt t d.next n o → RunFits d.next n (10 ^ n) o
+  run_fits n (Some v) d l h = (digits_lt t d.next n v h.1, let k : d.next + n ≤ length t = h.0 in omega arith)
+  run_fits n None d l h = tt
 
   -- what is read on from where some digits were read is what is read from the start
   pub number_reading_then : (value i : ℕ) (r : Number) → NumberReading t at from cap value i → NumberAt t i value cap r → NumberAt t at from cap r

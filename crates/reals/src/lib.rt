@@ -19,7 +19,7 @@ ghost use Rattle.reals.specs.Scalar.{real_of, ScaleAt, ReachOf, whole_of, intege
 ghost use Rattle.reals.specs.Which.{real_by};
 ghost use Rattle.reals.specs.Answer.{told_real, told_whole, told_reference, farthest, read, refused};
 ghost use Rattle.long_reals.specs.Number.{number_in};
-ghost use Rattle.reals.specs.DigitLoop.{NumberReading, DigitsAt, EightAt};
+ghost use Rattle.reals.specs.DigitLoop.{RunAt, RunFits, RunAdded};
 
 // Which reals are answered: those of the class, as document 01 and #101 have it, or any.
 #[derive(Clone, Copy)]
@@ -131,26 +131,32 @@ fn four_value(a: u8, b: u8, c: u8, d: u8) -> u64
     (a as u64 * 1000 + b as u64 * 100) + (c as u64 * 10 + d as u64) - 53328
 }
 
-// The number of four digits from a place, or 10000 at least where one is no digit. They do not wait for each other, as digits one by one do.
-fn four_at(t: &[u8], at: usize) -> u64
-    requires { at + 4 ≤ length t.now }
-    ensures { result < 10000 → DigitsAt t.now at 4 result }
+// The number of four digits from a place, where so many stand there. They do not wait for each other, as digits one by one do.
+fn four_at(t: &[u8], at: usize) -> Option<u64>
+    requires { at ≤ length t.now }
+    ensures { RunAt t.now at 4 result }
 {
+    if t.len() - at < 4 {
+        return None;
+    }
     let a = t[at];
     let b = t[at + 1];
     let c = t[at + 2];
     let d = t[at + 3];
     if are_digits(a, b, c, d) {
-        return four_value(a, b, c, d);
+        return Some(four_value(a, b, c, d));
     }
-    10000
+    None
 }
 
-// The number of eight digits from a place, where there are so many.
+// The number of eight digits from a place, where so many stand there.
 fn eight_at(t: &[u8], at: usize) -> Option<u64>
-    requires { at + 8 ≤ length t.now }
-    ensures { EightAt t.now at result }
+    requires { at ≤ length t.now }
+    ensures { RunAt t.now at 8 result }
 {
+    if t.len() - at < 8 {
+        return None;
+    }
     let a = t[at];
     let b = t[at + 1];
     let c = t[at + 2];
@@ -162,42 +168,17 @@ fn eight_at(t: &[u8], at: usize) -> Option<u64>
     eights::number(a, b, c, d, e, f, g, h)
 }
 
-// Reads on with eight digits from a place, where there are so many.
-fn eight_from(t: &[u8], at: usize, from: u64, cap: u64) -> Number
-    requires { (at ≤ length t.now) × (from ≤ cap) }
-    ensures { NumberReading t.now at from cap result.value result.next }
+// A number with n digits more, which move it up by `scale`; or as it is, where there are none.
+fn with_run(d: Number, run: Option<u64>, n: usize, scale: u64, cap: u64) -> Number
+    requires { (d.value ≤ cap) × RunFits d.next n scale run }
+    ensures { RunAdded d n scale cap run result }
 {
-    if t.len() - at >= 8 {
-        if let Some(v) = eight_at(t, at) {
-            return Number {
-                value: with_digits(from, v, 100000000, cap),
-                next: at + 8,
-            };
-        }
-    }
-    Number {
-        value: from,
-        next: at,
-    }
-}
-
-// Reads on with four digits from a place, where there are so many.
-fn four_from(t: &[u8], at: usize, from: u64, cap: u64) -> Number
-    requires { (at ≤ length t.now) × (from ≤ cap) }
-    ensures { NumberReading t.now at from cap result.value result.next }
-{
-    if t.len() - at >= 4 {
-        let v = four_at(t, at);
-        if v < 10000 {
-            return Number {
-                value: with_digits(from, v, 10000, cap),
-                next: at + 4,
-            };
-        }
-    }
-    Number {
-        value: from,
-        next: at,
+    match run {
+        Some(v) => Number {
+            value: with_digits(d.value, v, scale, cap),
+            next: d.next + n,
+        },
+        None => d,
     }
 }
 
@@ -207,9 +188,13 @@ fn many_digits_from(t: &[u8], at: usize, from: u64, cap: u64) -> Number
     requires { (at ≤ length t.now) × (from ≤ cap) }
     ensures { NumberAt t.now at from cap result }
 {
-    let d = eight_from(t, at, from, cap);
-    let e = eight_from(t, d.next, d.value, cap);
-    let g = four_from(t, e.next, e.value, cap);
+    let first = Number {
+        value: from,
+        next: at,
+    };
+    let d = with_run(first, eight_at(t, at), 8, 100000000, cap);
+    let e = with_run(d, eight_at(t, d.next), 8, 100000000, cap);
+    let g = with_run(e, four_at(t, e.next), 4, 10000, cap);
     digits_from(t, g.next, g.value, cap)
 }
 

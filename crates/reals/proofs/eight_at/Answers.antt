@@ -1,3 +1,4 @@
+use native.Mathlib.Omega.{arith}
 use Rattle.reals.specs.DigitLoop.{eight_at}
 use Rattle.reals.proofs.eight_at.Goals as goal
 
@@ -6,4 +7,4 @@ use Rattle.reals.proofs.eight_at.Goals as goal
 pub returns : goal.returns
 returns c =
     let a = c.args in
-    eight_at a.t.now a.at c.number.result c.number.ensures
+    eight_at a.t.now a.at c.number.result (omega arith) c.number.ensures

@@ -30,12 +30,7 @@ four_value-requires c =
     (low a.t.now a.at f.0, low a.t.now (a.at + 1) f.1, low a.t.now (a.at + 2) f.2, low a.t.now (a.at + 3) f.3)
 
 pub returns-then-are_digits : goal.returns-then-are_digits
-returns-then-are_digits c = λ h.
+returns-then-are_digits c =
     let a = c.args in
     let f = told a.t.now a.at (sym c.are_digits.ensures ∙ c.if-are_digits.true) in
-    let t = a.t.now in
-    let i = a.at in
-    four_at_lem t i c.four_value.result (f.0, (f.1, (f.2, (f.3, tt)))) c.four_value.ensures
-
-pub returns : goal.returns
-returns c = λ h. absurd (omega arith)
+    (omega arith, four_at_lem a.t.now a.at c.four_value.result (f.0, (f.1, (f.2, (f.3, tt)))) c.four_value.ensures)
