@@ -1,4 +1,4 @@
--- What the contracts of the by-value core say, by the file, the place and the end alone: the carrying reader's contracts cite these.
+-- What the contracts of the core say, by the file, the place and the end alone: the carrying reader's contracts cite these.
 -- Where a reader writes to lent room of n places, its answer is by n, and what the room holds afterwards (ys) is by what it held (xs).
 -- Assumes nothing.
 -- Definitions to be believed: no law, and nothing computed that no theorem ties (docs/BELIEVE.md).
@@ -11,7 +11,7 @@ use Rattle.params.specs.Reader.{param_of}
 use Rattle.params.specs.Answer.{Read, Span, read_mapped}
 use Rattle.words.specs.Words.{name_at, string_at}
 use Rattle.words.specs.Room.{room_of}
-use Rattle.words.specs.Answer.{Shown}
+use Rattle.words.specs.declared.Text.{Text}
 use Rattle.lists.specs.Answer.{how_many, written}
 use Rattle.lists.specs.Read.{list_read}
 use Rattle.grids.specs.Grid.{Size, grid_read, how_large, numbers_of, ends_of}
@@ -21,7 +21,7 @@ abbrev pub next_name : List ℕ → ℕ → ℕ → Read Span
 next_name s p e = read_mapped (name_at s) (param_of s p e)
 
 -- `next_str`: "the text shown is that part of the file; otherwise a part of the lent output"
-abbrev pub next_text : ℕ → List ℕ → ℕ → ℕ → Read Shown
+abbrev pub next_text : ℕ → List ℕ → ℕ → ℕ → Read Text
 next_text n s p e = read_mapped (string_at s n) (param_of s p e)
 
 -- the text room after `next_str`; "lent rows and output keep their bytes, as does all room beyond an answer"

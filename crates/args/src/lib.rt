@@ -1,26 +1,23 @@
 // The argument reader as one thing, which carries the file, its place and its end.
 //
-// As `Args` of the Rust's value.rs. Each reader takes the struct apart, calls the function of the by-value core that does the work, and
-// puts the reader where the answer leaves it. They are thin, and what can be said without the struct stands below it.
+// As `Args` of the Rust's value.rs. Each reader lends its place and end to the function of the crates below that does the work. They are
+// thin, and what can be said without the struct stands below it.
 #![tactic(auto)]
 
 ghost use Rattle.std.specs.Prelude.{◌≡◌};
 ghost use Rattle.reals.specs.Scalar.{reference_of, whole_of, real_of};
 ghost use Rattle.params.specs.Skips.{skip_of, skips_of, empty_of};
-ghost use Rattle.params.specs.Answer.{told_skipped, told_emptiness};
+ghost use Rattle.params.specs.Answer.{told_read};
 ghost use Rattle.scalars.specs.Scalars.{measure_of, option_of, truth_of};
-ghost use Rattle.scalars.specs.Answer.{next_of, told_next_ref, told_next_opt_ref, told_next_whole, told_next_real, told_next_opt_real, told_next_truth};
-ghost use Rattle.words.specs.Answer.{told_next_name, told_next_text};
-ghost use Rattle.lists.specs.Answer.{told_next_list};
-ghost use Rattle.grids.specs.Grid.{told_next_grid};
+ghost use Rattle.scalars.specs.Answer.{next_of, told_read_real, told_read_opt_real};
 ghost use Rattle.args.specs.CarryingReader.{OpensReader, Forwards, Fills, FillsBoth};
 ghost use Rattle.args.specs.Core.{next_name, next_text, text_room, next_list, list_room, real_room, next_grid, grid_room, real_grid_room, ends_room};
 
-use grids::NextGrid;
-use lists::NextList;
-use params::{Emptiness, OpenedReader, Skipped, State};
-use scalars::{NextOptReal, NextOptRef, NextReal, NextRef, NextTruth, NextWhole};
-use words::{NextName, NextText};
+use error::Fault;
+use grids::Size;
+use params::{Span, State};
+use scalars::Truth;
+use words::Text;
 
 #[derive(Clone, Copy)]
 pub struct Args<'a> {
@@ -28,24 +25,15 @@ pub struct Args<'a> {
     pub at: State,
 }
 
-// What opening a reader answers, and the reader: after 9 one that has nothing to read.
-#[derive(Clone, Copy)]
-pub struct Opening<'a> {
-    pub opened: OpenedReader,
-    pub args: Args<'a>,
-}
-
 impl<'a> Args<'a> {
     // A reader of the file from a place up to an end.
-    pub fn new(file: &'a [u8], place: usize, end: usize) -> Opening<'a>
+    pub fn new(file: &'a [u8], place: usize, end: usize) -> Result<Args<'a>, Fault>
         ensures { OpensReader file.entry place end result }
     {
-        let opened = params::new(file, place, end);
-        let args = Args {
-            file,
-            at: reader_after::opened(opened),
-        };
-        Opening { opened, args }
+        match params::new(file, place, end) {
+            Ok(at) => Ok(Args { file, at }),
+            Err(fault) => Err(fault),
+        }
     }
 
     // The reader's place.
@@ -56,174 +44,148 @@ impl<'a> Args<'a> {
     }
 
     // Whether no parameter is left; the reader goes past the trivia.
-    pub fn is_empty(&mut self) -> Emptiness
-        ensures { Forwards empty_of self.old self.new (told_emptiness result) }
+    pub fn is_empty(&mut self) -> Result<bool, Fault>
+        ensures { Forwards empty_of self.old self.new (told_read result self.new.at) }
     {
-        let answer = params::is_empty(self.file, self.at);
-        self.at = reader_after::emptiness(answer);
-        answer
+        params::is_empty(self.file, &mut self.at)
     }
 
     // Goes past one parameter.
-    pub fn skip(&mut self) -> Skipped
-        ensures { Forwards skip_of self.old self.new (told_skipped result) }
+    pub fn skip(&mut self) -> Result<(), Fault>
+        ensures { Forwards skip_of self.old self.new (told_read result self.new.at) }
     {
-        let answer = params::skip(self.file, self.at);
-        self.at = reader_after::skipped(answer);
-        answer
+        params::skip(self.file, &mut self.at)
     }
 
     // Goes past n parameters, or stops at the first refusal.
-    pub fn skip_n(&mut self, n: usize) -> Skipped
-        ensures { Forwards (skips_of n) self.old self.new (told_skipped result) }
+    pub fn skip_n(&mut self, n: usize) -> Result<(), Fault>
+        ensures { Forwards (skips_of n) self.old self.new (told_read result self.new.at) }
     {
-        let answer = params::skip_n(self.file, self.at, n);
-        self.at = reader_after::skipped(answer);
-        answer
+        params::skip_n(self.file, &mut self.at, n)
     }
 
-    pub fn next_ref(&mut self) -> NextRef
-        ensures { Forwards (next_of reference_of) self.old self.new (told_next_ref result) }
+    pub fn next_ref(&mut self) -> Result<u32, Fault>
+        ensures { Forwards (next_of reference_of) self.old self.new (told_read result self.new.at) }
     {
-        let answer = scalars::next_ref(self.file, self.at);
-        self.at = reader_after::reference(answer);
-        answer
+        scalars::next_ref(self.file, &mut self.at)
     }
 
-    pub fn next_opt_ref(&mut self) -> NextOptRef
-        ensures { Forwards (next_of (option_of reference_of)) self.old self.new (told_next_opt_ref result) }
+    pub fn next_opt_ref(&mut self) -> Result<Option<u32>, Fault>
+        ensures { Forwards (next_of (option_of reference_of)) self.old self.new (told_read result self.new.at) }
     {
-        let answer = scalars::next_opt_ref(self.file, self.at);
-        self.at = reader_after::opt_reference(answer);
-        answer
+        scalars::next_opt_ref(self.file, &mut self.at)
     }
 
-    pub fn next_i64(&mut self) -> NextWhole
-        ensures { Forwards (next_of whole_of) self.old self.new (told_next_whole result) }
+    pub fn next_i64(&mut self) -> Result<i64, Fault>
+        ensures { Forwards (next_of whole_of) self.old self.new (told_read result self.new.at) }
     {
-        let answer = scalars::next_i64(self.file, self.at);
-        self.at = reader_after::whole(answer);
-        answer
+        scalars::next_i64(self.file, &mut self.at)
     }
 
-    pub fn next_f64(&mut self) -> NextReal
-        ensures { Forwards (next_of real_of) self.old self.new (told_next_real result) }
+    pub fn next_f64(&mut self) -> Result<f64, Fault>
+        ensures { Forwards (next_of real_of) self.old self.new (told_read_real result self.new.at) }
     {
-        let answer = scalars::next_f64(self.file, self.at);
-        self.at = reader_after::real(answer);
-        answer
+        scalars::next_f64(self.file, &mut self.at)
     }
 
-    pub fn next_opt_f64(&mut self) -> NextOptReal
-        ensures { Forwards (next_of (option_of real_of)) self.old self.new (told_next_opt_real result) }
+    pub fn next_opt_f64(&mut self) -> Result<Option<f64>, Fault>
+        ensures { Forwards (next_of (option_of real_of)) self.old self.new (told_read_opt_real result self.new.at) }
     {
-        let answer = scalars::next_opt_f64(self.file, self.at);
-        self.at = reader_after::opt_real(answer);
-        answer
+        scalars::next_opt_f64(self.file, &mut self.at)
     }
 
-    pub fn next_measure_f64(&mut self) -> NextReal
-        ensures { Forwards (next_of measure_of) self.old self.new (told_next_real result) }
+    pub fn next_measure_f64(&mut self) -> Result<f64, Fault>
+        ensures { Forwards (next_of measure_of) self.old self.new (told_read_real result self.new.at) }
     {
-        let answer = scalars::next_measure_f64(self.file, self.at);
-        self.at = reader_after::real(answer);
-        answer
+        scalars::next_measure_f64(self.file, &mut self.at)
     }
 
-    pub fn next_bool(&mut self) -> NextTruth
-        ensures { Forwards (next_of truth_of) self.old self.new (told_next_truth result) }
+    pub fn next_bool(&mut self) -> Result<Truth, Fault>
+        ensures { Forwards (next_of truth_of) self.old self.new (told_read result self.new.at) }
     {
-        let answer = scalars::next_bool(self.file, self.at);
-        self.at = reader_after::truth(answer);
-        answer
+        scalars::next_bool(self.file, &mut self.at)
     }
 
-    pub fn next_enum(&mut self) -> NextName
-        ensures { Forwards next_name self.old self.new (told_next_name result) }
+    pub fn next_enum(&mut self) -> Result<Span, Fault>
+        ensures { Forwards next_name self.old self.new (told_read result self.new.at) }
     {
-        let answer = words::next_enum(self.file, self.at);
-        self.at = reader_after::name(answer);
-        answer
+        words::next_enum(self.file, &mut self.at)
     }
 
     // A text in the file, or in the lent room.
-    pub fn next_str(&mut self, out: &mut [u8]) -> NextText
-        ensures { Fills next_text text_room self.old self.new out.old out.new (told_next_text result) }
+    pub fn next_str(&mut self, out: &mut [u8]) -> Result<Text, Fault>
+        ensures { Fills next_text text_room self.old self.new out.old out.new (told_read result self.new.at) }
     {
-        let answer = words::next_str(self.file, self.at, out);
-        self.at = reader_after::text(answer);
-        answer
+        words::next_str(self.file, &mut self.at, out)
     }
 
-    pub fn next_ref_list(&mut self, out: &mut [u32]) -> NextList
-        ensures { Fills (next_list reference_of) (list_room reference_of) self.old self.new out.old out.new (told_next_list result) }
+    pub fn next_ref_list(&mut self, out: &mut [u32]) -> Result<usize, Fault>
+        ensures { Fills (next_list reference_of) (list_room reference_of) self.old self.new out.old out.new (told_read result self.new.at) }
     {
-        let answer = lists::next_ref_list(self.file, self.at, out);
-        self.at = reader_after::list(answer);
-        answer
+        lists::next_ref_list(self.file, &mut self.at, out)
     }
 
-    pub fn next_i64_list(&mut self, out: &mut [i64]) -> NextList
-        ensures { Fills (next_list whole_of) (list_room whole_of) self.old self.new out.old out.new (told_next_list result) }
+    pub fn next_i64_list(&mut self, out: &mut [i64]) -> Result<usize, Fault>
+        ensures { Fills (next_list whole_of) (list_room whole_of) self.old self.new out.old out.new (told_read result self.new.at) }
     {
-        let answer = lists::next_i64_list(self.file, self.at, out);
-        self.at = reader_after::list(answer);
-        answer
+        lists::next_i64_list(self.file, &mut self.at, out)
     }
 
-    pub fn next_f64_list(&mut self, out: &mut [f64]) -> NextList
-        ensures { Fills (next_list real_of) real_room self.old self.new out.old out.new (told_next_list result) }
+    pub fn next_f64_list(&mut self, out: &mut [f64]) -> Result<usize, Fault>
+        ensures { Fills (next_list real_of) real_room self.old self.new out.old out.new (told_read result self.new.at) }
     {
-        let answer = lists::next_f64_list(self.file, self.at, out);
-        self.at = reader_after::list(answer);
-        answer
+        lists::next_f64_list(self.file, &mut self.at, out)
     }
 
     // A grid's numbers and, apart, its row ends.
-    pub fn next_ref_grid(&mut self, out: &mut [u32], ends: &mut [usize]) -> NextGrid
+    pub fn next_ref_grid(&mut self, out: &mut [u32], ends: &mut [usize]) -> Result<Size, Fault>
         ensures { FillsBoth (next_grid reference_of) (grid_room reference_of) (ends_room reference_of)
-            self.old self.new out.old out.new ends.old ends.new (told_next_grid result) }
+            self.old self.new out.old out.new ends.old ends.new (told_read result self.new.at) }
     {
-        let answer = grids::next_ref_grid(self.file, self.at, out, ends);
-        self.at = reader_after::grid(answer);
-        answer
+        grids::next_ref_grid(self.file, &mut self.at, out, ends)
     }
 
-    pub fn next_f64_grid(&mut self, out: &mut [f64], ends: &mut [usize]) -> NextGrid
+    pub fn next_f64_grid(&mut self, out: &mut [f64], ends: &mut [usize]) -> Result<Size, Fault>
         ensures { FillsBoth (next_grid real_of) real_grid_room (ends_room real_of)
-            self.old self.new out.old out.new ends.old ends.new (told_next_grid result) }
+            self.old self.new out.old out.new ends.old ends.new (told_read result self.new.at) }
     {
-        let answer = grids::next_f64_grid(self.file, self.at, out, ends);
-        self.at = reader_after::grid(answer);
-        answer
+        grids::next_f64_grid(self.file, &mut self.at, out, ends)
     }
 }
 
 // The functions above with plain parameters: a reader is made, asked once and given up.
-pub fn skip_at(file: &[u8], at: State) -> Skipped
-    ensures { told_skipped result ≡ skip_of file.now at.place at.end }
+pub fn skip_at(file: &[u8], at: &mut State) -> Result<(), Fault>
+    ensures { told_read result at.new ≡ skip_of file.now at.old.place at.old.end }
 {
-    let mut args = Args { file, at };
-    args.skip()
+    let mut args = Args { file, at: *at };
+    let answer = args.skip();
+    *at = args.at;
+    answer
 }
 
-pub fn ref_at(file: &[u8], at: State) -> NextRef
-    ensures { told_next_ref result ≡ next_of reference_of file.now at.place at.end }
+pub fn ref_at(file: &[u8], at: &mut State) -> Result<u32, Fault>
+    ensures { told_read result at.new ≡ next_of reference_of file.now at.old.place at.old.end }
 {
-    let mut args = Args { file, at };
-    args.next_ref()
+    let mut args = Args { file, at: *at };
+    let answer = args.next_ref();
+    *at = args.at;
+    answer
 }
 
-pub fn i64_at(file: &[u8], at: State) -> NextWhole
-    ensures { told_next_whole result ≡ next_of whole_of file.now at.place at.end }
+pub fn i64_at(file: &[u8], at: &mut State) -> Result<i64, Fault>
+    ensures { told_read result at.new ≡ next_of whole_of file.now at.old.place at.old.end }
 {
-    let mut args = Args { file, at };
-    args.next_i64()
+    let mut args = Args { file, at: *at };
+    let answer = args.next_i64();
+    *at = args.at;
+    answer
 }
 
-pub fn f64_at(file: &[u8], at: State) -> NextReal
-    ensures { told_next_real result ≡ next_of real_of file.now at.place at.end }
+pub fn f64_at(file: &[u8], at: &mut State) -> Result<f64, Fault>
+    ensures { told_read_real result at.new ≡ next_of real_of file.now at.old.place at.old.end }
 {
-    let mut args = Args { file, at };
-    args.next_f64()
+    let mut args = Args { file, at: *at };
+    let answer = args.next_f64();
+    *at = args.at;
+    answer
 }
