@@ -1,8 +1,7 @@
 -- Answers as plain numbers, for a host in another language: one number is the answer, and what goes with it stands in lent numbers.
 -- Assumes nothing.
 -- Definitions to be believed: no law, and nothing computed that no theorem ties (docs/BELIEVE.md).
-use Rattle.std.specs.Prelude.{ℕ, ◌≡◌, Bool, true, false, List, map, Float}
-use Rattle.std.proofs.Math.Option.{Option, none, some}
+use Rattle.std.specs.Prelude.{ℕ, ◌≡◌, Bool, true, false, List, map, Float, Option, Some, None}
 use Rattle.std.specs.Float.{binary64}
 use Rattle.std.specs.Float.Ieee.{to_bits}
 use Rattle.std.specs.Borrow.{MutBor}
@@ -10,7 +9,8 @@ use denote.Triple.Both.{Both}
 use Rattle.error.specs.Refusal.{Told, good, bad}
 use Rattle.params.specs.Answer.{Read}
 use Rattle.lists.specs.Answer.{written}
-use Rattle.words.specs.Answer.{Shown, in_file, in_room}
+use Rattle.words.specs.declared.Text.{Text}
+use Rattle.words.specs.declared.Text.TheVariants.{InFile, InRoom}
 
 -- what a host lends, when a function is called and when it answers
 abbrev pub LentByHost : Type 0 → Type 0
@@ -57,14 +57,14 @@ PutsReals r out = map (to_bits binary64) out.exit.now ≡ written r (map (to_bit
 
 -- an answer that may be none as a number: 255 where there is none; 0, or the number of the refusal
 abbrev pub found_code : {A : Type 0} → Told (Option A) → ℕ
-found_code (good none) = 255
-found_code (good (some a)) = 0
+found_code (good None) = 255
+found_code (good (Some a)) = 0
 found_code (bad q) = q.number
 
 -- what f makes of an answer that is found, or, where there is none or it is refused, what stood there
 abbrev pub found_value : {A B : Type 0} → (A → B) → Told (Option A) → B → B
-found_value f (good none) old = old
-found_value f (good (some a)) old = f a
+found_value f (good None) old = old
+found_value f (good (Some a)) old = f a
 found_value f (bad q) old = old
 
 -- what a lent value then is: what f makes of what is found, or what it was
@@ -81,16 +81,16 @@ truth_number true = 1
 truth_number false = 0
 
 -- where a text is: 0 for the file, 1 for the lent room
-abbrev pub shown_room : Shown → ℕ
-shown_room (in_file a) = 0
-shown_room (in_room n) = 1
+abbrev pub shown_room : Text → ℕ
+shown_room (InFile a) = 0
+shown_room (InRoom n) = 1
 
 -- where a text begins, in the file or in the lent room
-abbrev pub shown_start : Shown → ℕ
-shown_start (in_file a) = a.start
-shown_start (in_room n) = 0
+abbrev pub shown_start : Text → ℕ
+shown_start (InFile a) = a.start
+shown_start (InRoom n) = 0
 
 -- where a text ends, in the file or in the lent room
-abbrev pub shown_stop : Shown → ℕ
-shown_stop (in_file a) = a.stop
-shown_stop (in_room n) = n
+abbrev pub shown_stop : Text → ℕ
+shown_stop (InFile a) = a.stop
+shown_stop (InRoom n) = n

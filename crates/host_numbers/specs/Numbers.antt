@@ -1,8 +1,7 @@
 -- Tables, rows and kinds as plain numbers, for a host in another language.
 -- Assumes nothing.
 -- Definitions to be believed: no law, and nothing computed that no theorem ties (docs/BELIEVE.md).
-use Rattle.std.specs.Prelude.{ℕ, ◌+◌, ◌/◌, ◌%◌, Bool, List, [], ◌∷◌, eqb, leb, length, get_or}
-use Rattle.std.proofs.Math.Option.{Option, none, some}
+use Rattle.std.specs.Prelude.{ℕ, ◌+◌, ◌/◌, ◌%◌, Bool, List, [], ◌∷◌, eqb, leb, length, get_or, Option, Some, None}
 use Rattle.std.proofs.lemmas.List.Edits.{sets}
 use Rattle.common.specs.Pick.{pick}
 use Rattle.error.specs.Refusal.{Told, good, bad}
@@ -59,14 +58,14 @@ tables_by xs = record { headers = get_or xs 8 0; records = get_or xs 9 0; max = 
 -- what is found goes into a lent list that needs room for m numbers and has room for n: 0, or 16 where that is too short; 255 where
 -- nothing is found; or the number of the refusal
 abbrev pub out_code : {A : Type 0} → ℕ → ℕ → Told (Option A) → ℕ
-out_code m n (good none) = 255
-out_code m n (good (some a)) = pick (leb m n) 0 16
+out_code m n (good None) = 255
+out_code m n (good (Some a)) = pick (leb m n) 0 16
 out_code m n (bad q) = q.number
 
 -- the lent list once what is found goes into it; as it was where it is too short, nothing is found or a refusal comes
 abbrev pub out_after : {A : Type 0} → ℕ → (A → List ℕ) → Told (Option A) → List ℕ → List ℕ
-out_after m f (good none) old = old
-out_after m f (good (some a)) old = put_in m (f a) old
+out_after m f (good None) old = old
+out_after m f (good (Some a)) old = put_in m (f a) old
 out_after m f (bad q) old = old
 
 -- ---- kinds

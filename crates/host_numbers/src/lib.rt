@@ -11,20 +11,19 @@ ghost use Rattle.common.specs.Pick.{pick};
 ghost use Rattle.kinds.specs.Rules.{rank_of};
 ghost use Rattle.table.specs.Table.{row_width, header_width, six, header_row_numbers};
 ghost use Rattle.statement.specs.Rows.{told_row, header_row_of};
-ghost use Rattle.host_numbers.specs.Answers.{truth_number};
 ghost use Rattle.host_numbers.specs.Numbers.{put_in, flags_of, ids_numbers, ids_by, tables_in, tables_by, kind_by};
 
 use index::Ids;
 use kinds::Kind;
 use lookup::Tables;
 use statement::{HeaderSpan, RecordSpan};
-pub use telling::{put_fault, put_list, put_refusal, put_skipped};
+pub use telling::{put_answer, put_fault, put_found, put_past, put_read};
 
 // A number of a lent list; 0 past its end.
 fn number_at(xs: &[u64], i: usize) -> u64
     ensures { result ≡ get_or xs.now i 0 }
 {
-    if i < xs.len() { xs[i] } else { 0 }
+    xs.get(i).copied().unwrap_or(0)
 }
 
 // Its last 32 binary digits.
@@ -38,37 +37,22 @@ fn narrow(x: u64) -> u32
 fn flags_of(direct: bool, distinct: bool) -> u64
     ensures { result ≡ flags_of direct distinct }
 {
-    if direct {
-        return if distinct { 3 } else { 1 };
-    }
-    if distinct { 2 } else { 0 }
-}
-
-// Whether something was found, as a number.
-fn bit_of(found: bool) -> u64
-    ensures { result ≡ pick found 1 0 }
-{
-    if found { 1 } else { 0 }
+    u64::from(direct) + 2 * u64::from(distinct)
 }
 
 // What stands beside the slots, by a host's numbers.
 pub fn ids_of(xs: &[u64]) -> Ids
     ensures { result ≡ ids_by xs.now }
 {
-    let count = number_at(xs, 0) as usize;
-    let first = narrow(number_at(xs, 1));
-    let last = narrow(number_at(xs, 2));
     let flags = number_at(xs, 3);
-    let even = number_at(xs, 4);
-    let shift = narrow(number_at(xs, 5));
     Ids {
-        count,
-        first,
-        last,
+        count: number_at(xs, 0) as usize,
+        first: narrow(number_at(xs, 1)),
+        last: narrow(number_at(xs, 2)),
         direct: flags % 2 == 1,
         distinct: flags / 2 % 2 == 1,
-        even: even % 2 == 1,
-        shift,
+        even: number_at(xs, 4) % 2 == 1,
+        shift: narrow(number_at(xs, 5)),
     }
 }
 
@@ -76,16 +60,24 @@ pub fn ids_of(xs: &[u64]) -> Ids
 pub fn tables_of(xs: &[u64]) -> Tables
     ensures { result ≡ tables_by xs.now }
 {
-    let headers = number_at(xs, 8) as usize;
-    let records = number_at(xs, 9) as usize;
-    let max = narrow(number_at(xs, 10));
-    let ids = ids_of(xs);
     Tables {
-        headers,
-        records,
-        max,
-        ids,
+        headers: number_at(xs, 8) as usize,
+        records: number_at(xs, 9) as usize,
+        max: narrow(number_at(xs, 10)),
+        ids: ids_of(xs),
     }
+}
+
+// Puts N numbers at the start of `out`: 0, or 16 where there is no room for them.
+fn put_numbers<const N: usize>(out: &mut [u64], xs: [u64; N]) -> u8
+    ensures value { result ≡ pick (leb N (length out.old)) 0 16 }
+    ensures out_after { out.new ≡ put_in N xs.entry out.old }
+{
+    if out.len() < N {
+        return 16;
+    }
+    out[..N].copy_from_slice(&xs);
+    0
 }
 
 // Puts what stands beside the slots at the start of `out`, where there is room for eight numbers.
@@ -95,12 +87,17 @@ pub fn put_ids(out: &mut [u64], b: Ids)
     if out.len() < 8 {
         return;
     }
-    out[0] = b.count as u64;
-    out[1] = b.first as u64;
-    out[2] = b.last as u64;
-    out[3] = flags_of(b.direct, b.distinct);
-    out[4] = bit_of(b.even);
-    out[5] = b.shift as u64;
+    put_numbers(
+        out,
+        [
+            b.count as u64,
+            b.first as u64,
+            b.last as u64,
+            flags_of(b.direct, b.distinct),
+            u64::from(b.even),
+            b.shift as u64,
+        ],
+    );
 }
 
 // Puts what goes with the tables into `out`, where there is room for sixteen numbers.
@@ -110,8 +107,7 @@ pub fn put_tables(out: &mut [u64], t: Tables)
     if out.len() < 16 {
         return;
     }
-    let b = t.ids;
-    put_ids(out, b);
+    put_ids(out, t.ids);
     out[8] = t.headers as u64;
     out[9] = t.records as u64;
     out[10] = t.max as u64;
@@ -122,16 +118,17 @@ pub fn put_row(out: &mut [u64], w: RecordSpan) -> u8
     ensures value { result ≡ pick (leb row_width (length out.old)) 0 16 }
     ensures out_after { out.new ≡ put_in row_width (six (told_row w)) out.old }
 {
-    if out.len() < table::ROW_WIDTH {
-        return 16;
-    }
-    out[0] = w.id as u64;
-    out[1] = w.keyword.start as u64;
-    out[2] = w.keyword.end as u64;
-    out[3] = w.args.start as u64;
-    out[4] = w.args.end as u64;
-    out[5] = w.complex as u64;
-    0
+    put_numbers(
+        out,
+        [
+            w.id as u64,
+            w.keyword.start as u64,
+            w.keyword.end as u64,
+            w.args.start as u64,
+            w.args.end as u64,
+            w.complex as u64,
+        ],
+    )
 }
 
 // Puts a header record's or a part's row at the start of `out`: 0, or 16 where there is no room for four numbers.
@@ -139,59 +136,42 @@ pub fn put_part(out: &mut [u64], w: HeaderSpan) -> u8
     ensures value { result ≡ pick (leb header_width (length out.old)) 0 16 }
     ensures out_after { out.new ≡ put_in header_width (header_row_numbers (header_row_of w)) out.old }
 {
-    if out.len() < table::HEADER_WIDTH {
-        return 16;
-    }
-    out[0] = w.keyword.start as u64;
-    out[1] = w.keyword.end as u64;
-    out[2] = w.args.start as u64;
-    out[3] = w.args.end as u64;
-    0
+    put_numbers(
+        out,
+        [
+            w.keyword.start as u64,
+            w.keyword.end as u64,
+            w.args.start as u64,
+            w.args.end as u64,
+        ],
+    )
 }
 
-// A truth as a number.
-pub fn number_of(b: bool) -> u8
-    ensures { result ≡ truth_number b }
-{
-    if b { 1 } else { 0 }
-}
+// The kinds that have a number of their own, each at its number.
+const KINDS: [Kind; 11] = [
+    Kind::GeometricRepresentationContext,
+    Kind::GlobalUnitAssignedContext,
+    Kind::GlobalUncertaintyAssignedContext,
+    Kind::LengthUnit,
+    Kind::PlaneAngleUnit,
+    Kind::SolidAngleUnit,
+    Kind::SiUnit,
+    Kind::ConversionBasedUnit,
+    Kind::UncertaintyMeasureWithUnit,
+    Kind::LengthMeasureWithUnit,
+    Kind::Complex,
+];
 
 // A kind's number.
 pub fn kind_number(k: Kind) -> u32
     ensures { result ≡ rank_of k }
 {
-    match k {
-        Kind::GeometricRepresentationContext => 0,
-        Kind::GlobalUnitAssignedContext => 1,
-        Kind::GlobalUncertaintyAssignedContext => 2,
-        Kind::LengthUnit => 3,
-        Kind::PlaneAngleUnit => 4,
-        Kind::SolidAngleUnit => 5,
-        Kind::SiUnit => 6,
-        Kind::ConversionBasedUnit => 7,
-        Kind::UncertaintyMeasureWithUnit => 8,
-        Kind::LengthMeasureWithUnit => 9,
-        Kind::Complex => 10,
-        Kind::Other => 11,
-    }
+    k as u32
 }
 
 // A kind by its number; any other number is `Other`.
 pub fn kind_by(n: u32) -> Kind
     ensures { result ≡ kind_by n }
 {
-    match n {
-        0 => Kind::GeometricRepresentationContext,
-        1 => Kind::GlobalUnitAssignedContext,
-        2 => Kind::GlobalUncertaintyAssignedContext,
-        3 => Kind::LengthUnit,
-        4 => Kind::PlaneAngleUnit,
-        5 => Kind::SolidAngleUnit,
-        6 => Kind::SiUnit,
-        7 => Kind::ConversionBasedUnit,
-        8 => Kind::UncertaintyMeasureWithUnit,
-        9 => Kind::LengthMeasureWithUnit,
-        10 => Kind::Complex,
-        _ => Kind::Other,
-    }
+    KINDS.get(n as usize).copied().unwrap_or(Kind::Other)
 }
