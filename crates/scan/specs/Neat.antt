@@ -1,6 +1,6 @@
 -- A file whose data records are all tidy (statement/specs/Tidy): the deciding pass finds out whether it is one, and the writing pass then
 -- reads each record by its first `;`. No contract of a public function cites these. Assumes nothing.
-use Rattle.std.specs.Prelude.{ℕ, ◌≡◌, Bool, true, ◌&&◌, List, drop, Result, Ok, Err}
+use Rattle.std.specs.Prelude.{ℕ, ◌≡◌, refl, Bool, true, false, ◌&&◌, List, drop, Result, Ok, Err}
 use Rattle.std.proofs.Common.{sym, ◌∙◌, ap}
 use Rattle.common.specs.Compare.{clash}
 use Rattle.common.specs.Tests.{both}
@@ -12,6 +12,8 @@ use Rattle.statement.specs.declared.Section.{Section}
 use Rattle.statement.specs.declared.Section.TheVariants.{Outside, InHeader, InData}
 use Rattle.error.specs.declared.Fault.{Fault}
 use Rattle.scan.specs.ScanMemory.{Counts}
+use Rattle.scan.specs.declared.Task.{Task}
+use Rattle.scan.specs.declared.Task.TheVariants.{Count, Store, StoreTidy}
 
 -- from the rest xs on, in a section, nothing is refused and each data record is tidy, up to where the reading ends
 pub data Neat (s : List ℕ) : Section → List ℕ → Type 0 where
@@ -20,6 +22,24 @@ pub data Neat (s : List ℕ) : Section → List ℕ → Type 0 where
   head : {sec : Section} {xs : List ℕ} (w : HeaderRow) (ys t : List ℕ) → header_statement w ys t ≡ statement s sec xs → Neat s InHeader t → Neat s sec xs
   row : {sec : Section} {xs : List ℕ} (w : Row) (ys t : List ℕ) → data_statement w ys t ≡ statement s sec xs → tidy s (data_statement w ys t) ≡ true → Neat s InData t
       → Neat s sec xs
+
+-- whether a pass stores the rows that it finds
+abbrev pub writes : Task → Bool
+writes Count = false
+writes Store = true
+writes StoreTidy = true
+
+-- whether a pass has been told that every data record is tidy
+abbrev pub knows : Task → Bool
+knows Count = false
+knows Store = false
+knows StoreTidy = true
+
+-- a pass that has been told so stores its rows
+pub knows_writes : (t : Task) → knows t ≡ true → writes t ≡ true
+knows_writes Count e = clash (cc)
+knows_writes Store e = clash (cc)
+knows_writes StoreTidy e = refl
 
 -- what a pass over the file tells: its counts, or a refusal
 abbrev pub told_passed : Result (Counts × Bool) Fault → Told Counts

@@ -18,7 +18,7 @@ ghost use Rattle.scan.specs.File.{marked, reading_of};
 ghost use Rattle.table.specs.Table.{rows_fit, headers_fit, row_put, header_put};
 ghost use Rattle.scan.specs.ScanMemory.{header_room, data_room, headers_of, records_of, counts_of, headers_after, rows_after, scan_lent};
 ghost use Rattle.scan.specs.Laws.{PassWrites};
-ghost use Rattle.scan.specs.Neat.{Neat, told_passed, NeatTold};
+ghost use Rattle.scan.specs.Neat.{Neat, writes, knows, told_passed, NeatTold};
 ghost use Rattle.scan.specs.TidyRun.{RecordsRan};
 ghost use Rattle.scan.specs.Fits.{HeaderFits, RecordFits};
 
@@ -31,6 +31,42 @@ pub struct Counts {
     pub headers: usize,
     pub records: usize,
     pub max: u32,
+}
+
+// What a pass does with the rows that it finds: it counts them alone; stores them; or stores them, told that every data record is tidy.
+#[derive(Clone, Copy, PartialEq, Eq)]
+enum Task {
+    Count,
+    Store,
+    StoreTidy,
+}
+
+impl Task {
+    fn writes(self) -> bool
+        ensures { result ≡ writes self }
+    {
+        match self {
+            Task::Count => false,
+            Task::Store | Task::StoreTidy => true,
+        }
+    }
+
+    fn knows(self) -> bool
+        ensures { result ≡ knows self }
+    {
+        match self {
+            Task::Count | Task::Store => false,
+            Task::StoreTidy => true,
+        }
+    }
+
+    // The task of the pass that follows one that has found the file to be accepted, and all its data records tidy or not.
+    fn storing(tidy: bool) -> Task
+        ensures writing { writes result ≡ true }
+        ensures knowing { knows result ≡ tidy }
+    {
+        if tidy { Task::StoreTidy } else { Task::Store }
+    }
 }
 
 // Whether a text begins with the marker, after whitespace.
@@ -97,6 +133,7 @@ fn run(
     requires { (length s.now ≤ 4294967295) × (from ≤ length s.now) × (room ≤ rows_fit (length rows.old)) × (known ≡ true → Neat s.now InData (drop from s.now)) }
     ensures { RecordsRan s.now room known from stored largest rows.old result.place result.count result.max rows.new }
 {
+    // Kept: how far a turn goes is what the record says, so no range counts them.
     let mut place = from;
     let mut count = stored;
     let mut max = largest;
@@ -119,23 +156,24 @@ fn data_room(numbers: usize, slots: usize) -> usize
     table::rows_fit(numbers).min(slots)
 }
 
-// Reads the file in order: counts, tells whether every data record is tidy, and where `write` is set stores each row. What is stored before a refusal stays, so
-// the scan writes only where an earlier pass has found none. Where every data record is known to be tidy nothing of those that follow
-// the first of a section is tested again.
+// Reads the file in order: counts, tells whether every data record is tidy, and stores each row where that is its task. What is stored before
+// a refusal stays, so the scan stores only where an earlier pass has found none. Where every data record is known to be tidy nothing of those
+// that follow the first of a section is tested again.
 fn pass(
     s: &[u8],
     headers: &mut [u32],
     rows: &mut [u32],
     slots: usize,
-    write: bool,
-    known: bool,
+    task: Task,
 ) -> Result<(Counts, bool), Fault>
-    requires { (length s.now ≤ 4294967295) × (known ≡ true → write ≡ true) × (known ≡ true → Neat s.now Outside s.now) }
+    requires { (length s.now ≤ 4294967295) × (knows task ≡ true → Neat s.now Outside s.now) }
     ensures result_value { told_passed result ≡ mapped counts_of (reading_of s.now (header_room headers.old) (data_room rows.old slots)) }
-    ensures pass_writes { PassWrites write (reading_of s.now (header_room headers.old) (data_room rows.old slots)) headers_of headers.old headers.new }
-    ensures pass_writes_2 { PassWrites write (reading_of s.now (header_room headers.old) (data_room rows.old slots)) records_of rows.old rows.new }
+    ensures pass_writes { PassWrites (writes task) (reading_of s.now (header_room headers.old) (data_room rows.old slots)) headers_of headers.old headers.new }
+    ensures pass_writes_2 { PassWrites (writes task) (reading_of s.now (header_room headers.old) (data_room rows.old slots)) records_of rows.old rows.new }
     ensures neat_told { NeatTold s.now result }
 {
+    let write = task.writes();
+    let known = task.knows();
     let room = data_room(rows.len(), slots);
     let mut i = 0;
     let mut section = Section::Outside;
@@ -200,7 +238,7 @@ pub fn scan(
     if !is_marked(file) {
         return Err(Fault::NoMarker);
     }
-    let (_, tidy) = pass(file, headers, rows, slots, false, false)?;
-    let (counts, _) = pass(file, headers, rows, slots, true, tidy)?;
+    let (_, tidy) = pass(file, headers, rows, slots, Task::Count)?;
+    let (counts, _) = pass(file, headers, rows, slots, Task::storing(tidy))?;
     Ok(counts)
 }

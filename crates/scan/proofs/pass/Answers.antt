@@ -2,7 +2,7 @@ use Rattle.scan.specs.ScanMemory.{header_room}
 use Rattle.scan.specs.Fits.{statement_fits, header_fits_more, record_fits_more}
 use Rattle.scan.specs.Laws.{going_starts, going_refused, going_moves, header_full, record_full, going_header, going_record, pass_done, pass_failed}
 use Rattle.scan.specs.TidyRun.{records_ran_on, records_ran_length, going_ran, tidying_ran}
-use Rattle.scan.specs.Neat.{tidying_starts, tidying_ends, tidying_moves, tidying_header, tidying_record}
+use Rattle.scan.specs.Neat.{knows_writes, tidying_starts, tidying_ends, tidying_moves, tidying_header, tidying_record}
 use Rattle.statement.specs.Answer.{told_said}
 use lib.ListN.{length, drop}
 use native.Mathlib.Omega.{arith}
@@ -13,8 +13,8 @@ pub loop-n-init : goal.loop-n-init
 loop-n-init c = let a = c.args in (
   refl,
   refl,
-  going_starts a.s.now (header_room a.headers.now) c.data_room-room.result a.write a.headers.now a.rows.now,
-  tidying_starts a.s.now a.known c.requires.2,
+  going_starts a.s.now (header_room a.headers.now) c.data_room-room.result c.writes-write.result a.headers.now a.rows.now,
+  tidying_starts a.s.now c.knows-known.result (λ z. c.requires.1 (sym c.knows-known.ensures ∙ z)),
 )
 
 pub returns-in-Ends : goal.returns-in-Ends
@@ -24,7 +24,7 @@ returns-in-Ends c = let a = c.args in
     let y = c.loop-n.invariant.3 in
     let b = c.in_ok-n.ensures.tidy_value in
     let l = pass_done _ _ _ _ _ _ _ _ _ _ _ _ _ g _ c.data_room-room.ensures e in
-    record { result_value = l.0; pass_writes = l.1.0; pass_writes_2 = l.1.1; neat_told = tidying_ends _ _ _ _ _ y _ b e }
+    record { result_value = l.0; pass_writes = rw (← c.writes-write.ensures) l.1.0; pass_writes_2 = rw (← c.writes-write.ensures) l.1.1; neat_told = tidying_ends _ _ _ _ _ y _ b e }
 
 pub returns-in_err-n : goal.returns-in_err-n
 returns-in_err-n c =
@@ -32,7 +32,7 @@ returns-in_err-n c =
     let e = c.in_err-n.ensures.said_value in
     let g = c.loop-n.invariant.2 in
     let l = pass_failed _ _ _ _ _ _ _ _ _ _ _ _ _ g _ c.data_room-room.ensures _ (going_refused _ _ _ _ _ _ _ _ _ _ _ _ _ g _ e) in
-    record { result_value = rw k l.0; pass_writes = l.1.0; pass_writes_2 = l.1.1; neat_told = rw k tt }
+    record { result_value = rw k l.0; pass_writes = rw (← c.writes-write.ensures) l.1.0; pass_writes_2 = rw (← c.writes-write.ensures) l.1.1; neat_told = rw k tt }
 
 pub loop-n-smaller-in-Moves : goal.loop-n-smaller-in-Moves
 loop-n-smaller-in-Moves c = let a = c.args in
@@ -60,7 +60,7 @@ returns-then-headers_fit-h c = let a = c.args in
     let y = c.loop-n.invariant.3 in
     let b = c.in_ok-n.ensures.tidy_value in
     let l = pass_failed _ _ _ _ _ _ _ _ _ _ _ _ _ g _ c.data_room-room.ensures _ (header_full _ _ _ _ _ _ _ _ _ _ _ _ _ g _ c.in-Heads.start c.in-Heads.next (omega arith) e (omega (arith, c.if-headers_fit-h.true, c.loop-n.invariant.0, c.headers_fit.ensures))) in
-    record { result_value = l.0; pass_writes = l.1.0; pass_writes_2 = l.1.1; neat_told = tt }
+    record { result_value = l.0; pass_writes = rw (← c.writes-write.ensures) l.1.0; pass_writes_2 = rw (← c.writes-write.ensures) l.1.1; neat_told = tt }
 
 pub put_header-h-requires : goal.put_header-h-requires
 put_header-h-requires c = let a = c.args in
@@ -102,7 +102,7 @@ returns-then-room-r c = let a = c.args in
     let y = c.loop-n.invariant.3 in
     let b = c.in_ok-n.ensures.tidy_value in
     let l = pass_failed _ _ _ _ _ _ _ _ _ _ _ _ _ g _ c.data_room-room.ensures _ (record_full _ _ _ _ _ _ _ _ _ _ _ _ _ g _ c.in-Records.start c.in-Records.next (omega arith) e c.if-room-r.true) in
-    record { result_value = l.0; pass_writes = l.1.0; pass_writes_2 = l.1.1; neat_told = tt }
+    record { result_value = l.0; pass_writes = rw (← c.writes-write.ensures) l.1.0; pass_writes_2 = rw (← c.writes-write.ensures) l.1.1; neat_told = tt }
 
 pub put_record-requires : goal.put_record-requires
 put_record-requires c = let a = c.args in
@@ -149,7 +149,7 @@ loop-n-preserved c = let a = c.args in
     let l = records_ran_length _ _ _ _ _ _ _ u.ensures in (
       c.loop-n.invariant.0,
       l ∙ p.auto.out ∙ c.loop-n.invariant.1,
-      going_ran _ _ _ _ _ _ _ _ _ _ _ _ _ (omega (arith, c.data_room-room.ensures)) c.requires.1
+      going_ran _ _ _ _ _ _ _ _ _ _ _ _ _ (omega (arith, c.data_room-room.ensures)) (λ z. c.writes-write.ensures ∙ knows_writes a.task (sym c.knows-known.ensures ∙ z))
           (rw (p.ensures, c.max.ensures) (going_record _ _ _ _ _ _ _ _ _ _ _ _ _ g _ c.in-Records.start _ e w.0 w.2 c.if-room-r.false (omega (arith, c.if-room-r.false, c.data_room-room.ensures))))
           u.ensures,
       tidying_ran _ _ _ _ _ _ _ _ (tidying_record _ _ _ _ _ y _ d _ c.in-Records.start _ e) u.ensures,

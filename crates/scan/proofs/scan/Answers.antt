@@ -16,11 +16,14 @@ returns-in_err-tidy c = let a = c.args in
     let q = scan_refused a.file.now _ _ a.headers.now a.rows.now (omega arith) (sym c.is_marked.ensures ∙ c.if-not-is_marked.false) _ _ _
     (c.in_err-tidy.ensures.result_value, (c.pass.ensures.pass_writes, c.pass.ensures.pass_writes_2)) in record { result_value = rw k q.0; headers_after = q.1.0; rows_after = q.1.1 }
 
+pub pass-requires-2 : goal.pass-requires-2
+pass-requires-2 c = (omega arith, λ z. c.in_ok-tidy.ensures.neat_told (sym c.storing.ensures.knowing ∙ z))
+
 pub returns : goal.returns
 returns c = let a = c.args in
     let e = c.in_ok-counts.ensures in
     let r = rw (c.pass.ensures.pass_writes, c.pass.ensures.pass_writes_2) at e.result_value in
-    let x = rw (c.pass.ensures.pass_writes, c.pass.ensures.pass_writes_2) at e.pass_writes in
-    let y = rw (c.pass.ensures.pass_writes, c.pass.ensures.pass_writes_2) at e.pass_writes_2 in
+    let x = rw (c.pass.ensures.pass_writes, c.pass.ensures.pass_writes_2, c.storing.ensures.writing) at e.pass_writes in
+    let y = rw (c.pass.ensures.pass_writes, c.pass.ensures.pass_writes_2, c.storing.ensures.writing) at e.pass_writes_2 in
     let q = scan_done a.file.now _ _ a.headers.now a.rows.now (omega arith) (sym c.is_marked.ensures ∙ c.if-not-is_marked.false) _ _ _ _
     c.in_ok-tidy.ensures.result_value (r, (x, y)) in record { result_value = q.0; headers_after = q.1.0; rows_after = q.1.1 }
