@@ -175,6 +175,7 @@ fn pass(
     let write = task.writes();
     let known = task.knows();
     let room = data_room(rows.len(), slots);
+    // Kept: how far a turn goes is what the statement says, so no range counts the places.
     let mut i = 0;
     let mut section = Section::Outside;
     let mut h: usize = 0;
