@@ -5,75 +5,60 @@
 // A line is all bytes up to an LF, blanks included; the last one may lack its LF. A line of more than 4,096 bytes is not read.
 #![tactic(auto)]
 
-use input::Feed;
-use printing::{Line, Pen};
+use input::{CHUNK, Feed, Output};
 use reals::{NotRead, Reals};
+use std::io::{Read, Write};
+use std::{fmt, io};
+
+fn main(rt: HostRuntime) {
+    let mut chunk = [0u8; CHUNK];
+    let mut buffer = [0u8; CHUNK];
+    let mut feed = Feed::new(rt.stdin(), &mut chunk);
+    let mut out = Output::new(&rt, &mut buffer);
+    // nothing ends where it cannot be written: the output tells of that at the end
+    let _ = put_answers(&rt, &mut feed, &mut out);
+    out.finish();
+}
 
 // Answers the lines: all of them, or as many as 64 bits count.
-fn main(rt: HostRuntime) {
-    let mut from = rt.stdin();
-    let mut chunk = [0u8; 65536];
+fn put_answers<R: Eprint + Alloc, F: Read, W: Write>(
+    rt: &R,
+    feed: &mut Feed<'_, F>,
+    out: &mut W,
+) -> io::Result<()> {
     let mut line = [0u8; 4096];
-    let mut out = [0u8; 65536];
-    let mut feed = input::start();
-    let mut pen = printing::fresh();
-    let mut left = u64::MAX;
-    // Kept: what is left is what `input::left` answers, 0 at the input's end, so no range counts it.
-    while left > 0 {
-        feed = input::pass(
-            &mut from,
-            &mut chunk,
-            feed,
-            usize::MAX,
-            input::LF,
-            &mut line,
-        );
-        left = input::left(&rt, left, feed);
-        pen = both(&rt, &mut out, pen, &line, feed, left);
+    for _ in 0..u64::MAX {
+        match feed.line(&mut line) {
+            Ok(Some(n)) if n <= line.len() => {
+                let t = &line[..n];
+                let first = Answer(reals::read_real(Reals::Class, t));
+                let second = Answer(reals::read_real(Reals::Any, t));
+                writeln!(out, "{first} {second}")?;
+            }
+            Ok(Some(_)) => writeln!(out, "too long for this program")?,
+            Ok(None) => break,
+            Err(error) => {
+                input::fail(rt, "standard input", error);
+                return writeln!(out, "standard input cannot be read");
+            }
+        }
     }
-    printing::finish(&rt, &out, pen);
+    Ok(())
 }
 
-// Puts both answers to a line, or what stands for both. Where none is left, there was no line.
-fn both<R: Print>(rt: &R, out: &mut [u8], pen: Pen, line: &[u8], feed: Feed, left: u64) -> Pen {
-    if left == 0 {
-        return if feed.failed == 0 {
-            pen
-        } else {
-            printing::bytes(rt, out, pen, b"standard input cannot be read\n")
-        };
-    }
-    let count = feed.count;
-    if count > line.len() {
-        return printing::bytes(rt, out, pen, b"too long for this program\n");
-    }
-    let t = &line[..count];
-    let mut last = answer(rt, out, pen, reals::read_real(Reals::Class, t));
-    last = printing::byte(rt, out, last, b' ');
-    last = answer(rt, out, last, reals::read_real(Reals::Any, t));
-    printing::byte(rt, out, last, b'\n')
-}
+// What one of the two readings answers.
+#[derive(Drop)]
+struct Answer(Result<f64, NotRead>);
 
-// Puts the answer of one reading.
-fn answer<R: Print>(rt: &R, out: &mut [u8], pen: Pen, read: Result<f64, NotRead>) -> Pen {
-    match read {
-        Ok(x) => printing::form(rt, out, pen, b"%x\n", b"", number(nearest::bits(x))),
-        Err(NotRead::Outside) => printing::bytes(rt, out, pen, b"13"),
-        Err(NotRead::NotReal) => printing::bytes(rt, out, pen, b"12"),
-    }
-}
-
-// The first pattern, with a number in it.
-fn number(a: u64) -> Line {
-    Line {
-        pattern: 1,
-        a,
-        b: 0,
-        c: 0,
-        d: 0,
-        e: 0,
-        f: 0,
-        g: 0,
-        h: 0,
+impl fmt::Display for Answer {
+    fn fmt<W: fmt::Write>(&self, f: &mut fmt::Formatter<W>) -> fmt::Result {
+        match &self.0 {
+            Ok(x) => {
+                let bits = nearest::bits(*x);
+                write!(f, "{bits:016x}")
+            }
+            Err(NotRead::NotReal) => write!(f, "12"),
+            Err(NotRead::Outside) => write!(f, "13"),
+        }
     }
 }

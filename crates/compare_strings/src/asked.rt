@@ -1,113 +1,83 @@
 // What a line asks for: the string's bytes and the room's length.
-ghost use Rattle.std.specs.Prelude.{◌+◌, ◌*◌, ◌≤◌, length};
+ghost use Rattle.std.specs.Prelude.{◌≤◌, length, IfOk};
 
-use crate::answer::{FAILED, LONG, NO_ROOM, NOT_HEX, NOTHING};
-use input::Feed;
+use std::fmt;
 
+// Why a line is not answered.
+#[derive(Clone, Copy)]
+pub enum Unanswered {
+    NoRoom,
+    NotHex,
+    Long,
+}
+
+impl fmt::Display for Unanswered {
+    fn fmt<W: fmt::Write>(&self, f: &mut fmt::Formatter<W>) -> fmt::Result {
+        match self {
+            Unanswered::NoRoom => write!(f, "no room of at most 65536 bytes before the colon"),
+            Unanswered::NotHex => write!(f, "not hex digits in pairs"),
+            Unanswered::Long => write!(f, "too long for this program"),
+        }
+    }
+}
+
+// The string's bytes, so many of the lent ones, and the length of the room for its text.
 #[derive(Clone, Copy)]
 pub struct AskedString {
-    // The pattern of what is said at once, or 0.
-    pub why: usize,
-    // Where the hex digits start, and how many pairs of them there are.
-    pub start: usize,
-    pub pairs: usize,
-    // The room's length.
+    pub count: usize,
     pub lent: usize,
 }
 
-// What a line asks for. Where none is left, there was no line.
-pub fn by(line: &[u8], feed: Feed, left: u64) -> AskedString
-    ensures { result.start + 2 * result.pairs ≤ length line.now }
+// What a line asks for. A line of n bytes is whole where the room for lines is larger.
+pub fn by(line: &[u8], n: usize, string: &mut [u8]) -> Result<AskedString, Unanswered>
+    ensures { IfOk result (λ a. a.count ≤ length string.new) }
 {
-    let count = least(feed.count, line.len());
-    let why = no_line(left, feed.failed, line.len() - count);
-    let at = colon(line, count);
-    let room = input::digits(line, 0);
-    placed(why, count, at, room.end, room.number)
+    if n >= line.len() {
+        return Err(Unanswered::Long);
+    }
+    let text = &line[..n];
+    let Some(colon) = text.iter().position(|b| *b == b':') else {
+        let count = put_pairs(text, string)?;
+        return Ok(AskedString { count, lent: n });
+    };
+    let lent = room_length(&text[..colon])?;
+    let count = put_pairs(&text[colon + 1..], string)?;
+    Ok(AskedString { count, lent })
 }
 
-pub fn least(a: usize, b: usize) -> usize
-    ensures { result ≤ b }
+// A room's length: one to nine digits, of which 65,536 is the most.
+fn room_length(t: &[u8]) -> Result<usize, Unanswered> {
+    match input::decimal(t) {
+        Some(n) if t.len() < 10 && n <= 65536 => Ok(n),
+        _ => Err(Unanswered::NoRoom),
+    }
+}
+
+// Puts the bytes of pairs of hex digits, and answers how many they are.
+fn put_pairs(digits: &[u8], bytes: &mut [u8]) -> Result<usize, Unanswered>
+    ensures { IfOk result (λ n. n ≤ length bytes.new) }
 {
-    if a < b { a } else { b }
-}
-
-// The pattern of what is said where there is no line, or one that leaves nothing of its room; else 0.
-fn no_line(left: u64, failed: usize, free: usize) -> usize {
-    if left == 0 {
-        return if failed == 0 { NOTHING } else { FAILED };
+    let n = digits.len() / 2;
+    if digits.len() % 2 != 0 {
+        return Err(Unanswered::NotHex);
     }
-    if free == 0 { LONG } else { 0 }
+    if n > bytes.len() {
+        return Err(Unanswered::Long);
+    }
+    for k in 0..n {
+        bytes[k] = digit(digits[2 * k])? * 16 + digit(digits[2 * k + 1])?;
+    }
+    Ok(n)
 }
 
-// What a line of so many bytes asks for, by the place of its colon and the digits that it begins with.
-fn placed(why: usize, count: usize, colon: usize, end: usize, number: u64) -> AskedString
-    requires { colon ≤ count }
-    ensures { result.start + 2 * result.pairs ≤ count }
+// What a byte is worth as a hex digit.
+fn digit(b: u8) -> Result<u8, Unanswered>
+    ensures { IfOk result (λ n. n ≤ 15) }
 {
-    if why != 0 {
-        return nothing(why);
+    match b {
+        b'0'..=b'9' => Ok(b - b'0'),
+        b'a'..=b'f' => Ok(b - b'a' + 10),
+        b'A'..=b'F' => Ok(b - b'A' + 10),
+        _ => Err(Unanswered::NotHex),
     }
-    if colon == count {
-        return pairs(0, count, count);
-    }
-    if is_room(colon, end, number) {
-        return pairs(colon + 1, count, number as usize);
-    }
-    nothing(NO_ROOM)
-}
-
-fn nothing(why: usize) -> AskedString
-    ensures { result.start + 2 * result.pairs ≤ 0 }
-{
-    AskedString {
-        why,
-        start: 0,
-        pairs: 0,
-        lent: 0,
-    }
-}
-
-// The pairs between a start and an end.
-fn pairs(start: usize, end: usize, lent: usize) -> AskedString
-    requires { start ≤ end }
-    ensures { result.start + 2 * result.pairs ≤ end }
-{
-    let n = end - start;
-    if n % 2 != 0 {
-        return nothing(NOT_HEX);
-    }
-    AskedString {
-        why: 0,
-        start,
-        pairs: n / 2,
-        lent,
-    }
-}
-
-// Whether a room's length stands before the colon: one to nine digits, of which 65,536 is the most.
-fn is_room(colon: usize, end: usize, number: u64) -> bool {
-    if colon == end {
-        if colon > 0 {
-            if colon < 10 {
-                return number <= 65536;
-            }
-        }
-    }
-    false
-}
-
-// The place of the colon, or the line's end.
-fn colon(line: &[u8], end: usize) -> usize
-    requires { end ≤ length line.now }
-    ensures { result ≤ end }
-{
-    let mut at = 0;
-    while at < end {
-        if line[at] == b':' {
-            break;
-        }
-        at += 1;
-    }
-    at
 }

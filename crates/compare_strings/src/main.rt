@@ -9,41 +9,44 @@
 mod answer;
 mod asked;
 
-// Answers the lines: all of them, or as many as 64 bits count.
+use input::{CHUNK, Feed, Output};
+use std::io;
+use std::io::{Read, Write};
+
 fn main(rt: HostRuntime) {
-    let mut from = rt.stdin();
-    let mut chunk = [0u8; 65536];
-    let mut line = [0u8; 65536];
-    let mut room = [0u8; 65536];
-    let mut out = [0u8; 65536];
-    let table = answer::patterns();
-    let mut feed = input::start();
-    let mut pen = printing::fresh();
-    let mut left = u64::MAX;
-    while left > 0 {
-        feed = input::pass(
-            &mut from,
-            &mut chunk,
-            feed,
-            usize::MAX,
-            input::LF,
-            &mut line,
-        );
-        left = input::left(&rt, left, feed);
-        let said = answer::said(&mut line, &mut room, feed, left);
-        pen = printing::form(
-            &rt,
-            &mut out,
-            pen,
-            &table,
-            shown(&line, &room, said.pattern),
-            said,
-        );
-    }
-    printing::finish(&rt, &out, pen);
+    let mut chunk = [0u8; CHUNK];
+    let mut buffer = [0u8; CHUNK];
+    let mut feed = Feed::new(rt.stdin(), &mut chunk);
+    let mut out = Output::new(&rt, &mut buffer);
+    // nothing ends where it cannot be written: the output tells of that at the end
+    let _ = answers(&rt, &mut feed, &mut out);
+    out.finish();
 }
 
-// The bytes that a pattern shows: the string's, or the text's in the room.
-fn shown<'a>(line: &'a [u8], room: &'a [u8], pattern: usize) -> &'a [u8] {
-    if pattern == answer::PLAIN { line } else { room }
+// Answers the lines: all of them, or as many as 64 bits count.
+fn answers<R: Eprint + Alloc, F: Read, W: Write>(
+    rt: &R,
+    feed: &mut Feed<'_, F>,
+    out: &mut W,
+) -> io::Result<()> {
+    let mut line = [0u8; 65536];
+    let mut string = [0u8; 32768];
+    let mut room = [0u8; 65536];
+    for number in 1..u64::MAX {
+        match feed.line(&mut line) {
+            Ok(Some(n)) => match asked::by(&line, n, &mut string) {
+                Ok(a) => {
+                    let lent = a.lent.min(room.len());
+                    answer::put_text(&string[..a.count], &mut room[..lent], number, out)?;
+                }
+                Err(why) => writeln!(out, "line {number}: {why}")?,
+            },
+            Ok(None) => break,
+            Err(error) => {
+                input::fail(rt, "standard input", error);
+                return writeln!(out, "standard input cannot be read");
+            }
+        }
+    }
+    Ok(())
 }

@@ -1,191 +1,152 @@
 // A reader, as standard input, by way of a lent chunk: one read for many small ones.
-ghost use Rattle.std.specs.Prelude.{◌-◌, ◌≤◌, length};
+ghost use Rattle.std.specs.Prelude.{◌≤◌, length};
 ghost use Rattle.io.specs.Counts.{IsPrefixLen};
 
-use crate::{digits, fail, read};
+use crate::number_of;
 use std::io::Read;
 
-// The bytes of the chunk from `at` up to `end` were read and are not used yet.
+#[derive(Drop)]
+pub struct Feed<'a, R> {
+    from: R,
+    chunk: &'a mut [u8],
+    // The bytes of the chunk from `at` up to `end` were read and are not used yet.
+    at: usize,
+    end: usize,
+    // Where the last read failed: the system's number of that, and 0 where it has none.
+    failed: Option<i32>,
+}
+
+// What stood behind the bytes that were passed.
+#[derive(Clone, Copy, PartialEq, Eq)]
+enum Stop {
+    // The byte that was sought, which is passed too.
+    Found,
+    // The input's end, or a read that failed.
+    End,
+    // So many bytes as were asked for, with others behind them or none.
+    Full,
+}
+
+// How many bytes were passed, and what stood behind them.
 #[derive(Clone, Copy)]
-pub struct Feed {
-    pub at: usize,
-    pub end: usize,
-    // 1 where the last read failed, else 0.
-    pub failed: usize,
-    // The system's number of that failure, and 0 where there is none.
-    pub error: i32,
-    // How many bytes `pass` went past.
-    pub count: usize,
-    // The last byte that was used, and what it may end: LF, or END where there was none.
-    pub stop: usize,
-    pub byte: u8,
+struct Passed {
+    count: usize,
+    stop: Stop,
 }
 
-// What ends the bytes that are used: an LF, or the input's end.
-pub const LF: usize = 1;
-
-pub const END: usize = 2;
-
-// A number in decimal, and the line end behind it.
+// A line that is no number of at most fifteen digits.
 #[derive(Clone, Copy)]
-pub enum NumberLine {
-    Number(u64, Feed),
-    // The input ended where a number might have begun.
-    End(Feed),
-    // Something else than digits and LF.
-    Bad(Feed),
-}
+pub struct NoNumber;
 
-// How many bytes were used, and the feed after them.
-#[derive(Clone, Copy)]
-pub struct Brought {
-    pub count: usize,
-    pub feed: Feed,
-}
-
-// A feed of which nothing was read yet.
-pub fn start() -> Feed {
-    fresh(0, 0, 0)
-}
-
-// A feed of which so many bytes were read and none is used.
-pub fn fresh(end: usize, failed: usize, error: i32) -> Feed
-    ensures { result.end ≤ end }
-{
-    Feed {
-        at: 0,
-        end,
-        failed,
-        error,
-        count: 0,
-        stop: 0,
-        byte: 0,
-    }
-}
-
-// The feed after the next byte. Where all of the chunk is used, more is read.
-fn next_byte<R: Read>(from: &mut R, chunk: &mut [u8], feed: Feed) -> Feed {
-    let mut last = feed;
-    if last.at >= last.end {
-        last = read(from, chunk);
-    }
-    taken(chunk, last)
-}
-
-// The feed after the next byte that is at hand.
-fn taken(chunk: &[u8], feed: Feed) -> Feed {
-    let mut last = feed;
-    let at = feed.at;
-    last.stop = END;
-    if at < feed.end {
-        if at < chunk.len() {
-            let byte = chunk[at];
-            last.at = at + 1;
-            last.byte = byte;
-            last.stop = (byte == b'\n') as usize;
+impl<'a, R: Read> Feed<'a, R> {
+    // A feed of which nothing was read yet.
+    pub fn new(from: R, chunk: &'a mut [u8]) -> Feed<'a, R> {
+        Feed {
+            from,
+            chunk,
+            at: 0,
+            end: 0,
+            failed: None,
         }
     }
-    last
-}
 
-// Goes past bytes, n at most, up to a stop and past it, and puts those that fit at the start of the room.
-pub fn pass<R: Read>(
-    from: &mut R,
-    chunk: &mut [u8],
-    feed: Feed,
-    n: usize,
-    stop: usize,
-    room: &mut [u8],
-) -> Feed
-    ensures { result.count ≤ n }
-{
-    let mut last = feed;
-    let mut count = 0;
-    while count < n {
-        last = next_byte(from, chunk, last);
-        if last.stop >= stop {
-            break;
+    // Where the last read failed, the system's number of that.
+    pub fn failed(&self) -> Option<i32> {
+        self.failed
+    }
+
+    // The next byte; none at the input's end, and where a read fails. Where all of the chunk is used, more is read.
+    fn next_byte(&mut self) -> Option<u8> {
+        if self.at >= self.end {
+            self.refill();
         }
-        if count < room.len() {
-            room[count] = last.byte;
+        if self.at >= self.end {
+            return None;
         }
-        count += 1;
+        let at = self.at;
+        self.at = at + 1;
+        self.chunk.get(at).copied()
     }
-    last.count = count;
-    last
-}
 
-// Reads a number of at most fifteen digits and its line end.
-pub fn number_line<R: Read>(from: &mut R, chunk: &mut [u8], feed: Feed) -> NumberLine {
-    let mut room = [0u8; 16];
-    let last = pass(from, chunk, feed, 16, LF, &mut room);
-    number(&room, last)
-}
-
-// The number that a line is.
-fn number(t: &[u8], feed: Feed) -> NumberLine {
-    let n = digits(t, 0);
-    match kind(feed.stop, feed.count, n.end) {
-        LF => NumberLine::Number(n.number, feed),
-        END => NumberLine::End(feed),
-        _ => NumberLine::Bad(feed),
-    }
-}
-
-// What a line is of which so many bytes are digits, by what ended it: LF for a number, END for no line.
-fn kind(stop: usize, count: usize, digits: usize) -> usize {
-    if count == 0 {
-        return if stop == END { END } else { 0 };
-    }
-    if count == digits { stop % 2 } else { 0 }
-}
-
-// Puts the next n bytes at the start of the room, as far as the input and the room go.
-pub fn bring<R: Read>(
-    from: &mut R,
-    chunk: &mut [u8],
-    feed: Feed,
-    n: usize,
-    room: &mut [u8],
-) -> Brought
-    ensures { IsPrefixLen result.count room.new }
-{
-    let last = pass(from, chunk, feed, least(n, room.len()), END, room);
-    Brought {
-        count: last.count,
-        feed: last,
-    }
-}
-
-fn least(a: usize, b: usize) -> usize
-    ensures { result ≤ b }
-{
-    if a < b { a } else { b }
-}
-
-// Goes past n bytes, as far as the input goes.
-pub fn skip<R: Read>(from: &mut R, chunk: &mut [u8], feed: Feed, n: usize) -> Brought {
-    let mut none = [0u8; 1];
-    let last = pass(from, chunk, feed, n, END, &mut none);
-    Brought {
-        count: last.count,
-        feed: last,
-    }
-}
-
-// How many more lines a loop over lines may ask for, of so many before the one that `pass` brought: none where there was no line, so that
-// the loop ends. The last line may lack its LF. Where a read failed, standard error says why.
-pub fn left<R: Eprint + Alloc>(rt: &R, before: u64, feed: Feed) -> u64
-    ensures { result ≤ before - 1 }
-{
-    if feed.failed != 0 {
-        fail(rt, "standard input", feed.error);
-        return 0;
-    }
-    if feed.stop == END {
-        if feed.count == 0 {
-            return 0;
+    fn refill(&mut self) {
+        self.at = 0;
+        match self.from.read(self.chunk) {
+            Ok(n) => {
+                self.end = n;
+                self.failed = None;
+            }
+            Err(e) => {
+                self.end = 0;
+                self.failed = Some(number_of(&e));
+            }
         }
     }
-    if before == 0 { 0 } else { before - 1 }
+
+    // Goes past bytes, n at most, up to one that is sought and past it, and puts those that fit at the start of the room.
+    fn pass(&mut self, n: usize, sought: Option<u8>, room: &mut [u8]) -> Passed
+        ensures { result.count ≤ n }
+    {
+        for count in 0..n {
+            let Some(byte) = self.next_byte() else {
+                return Passed {
+                    count,
+                    stop: Stop::End,
+                };
+            };
+            if sought == Some(byte) {
+                return Passed {
+                    count,
+                    stop: Stop::Found,
+                };
+            }
+            if count < room.len() {
+                room[count] = byte;
+            }
+        }
+        Passed {
+            count: n,
+            stop: Stop::Full,
+        }
+    }
+
+    // Reads the next line, without its LF, as far as it fits into the room, and answers how many bytes it has; none behind the last one, which
+    // may lack its LF. An error is the system's number of a read that failed.
+    pub fn line(&mut self, room: &mut [u8]) -> Result<Option<usize>, i32> {
+        let got = self.pass(usize::MAX, Some(b'\n'), room);
+        if let Some(error) = self.failed {
+            return Err(error);
+        }
+        if got.stop == Stop::End && got.count == 0 {
+            return Ok(None);
+        }
+        Ok(Some(got.count))
+    }
+
+    // Reads a number of at most fifteen digits and its LF; none where the input ended before it.
+    pub fn number_line(&mut self) -> Result<Option<usize>, NoNumber> {
+        let mut room = [0u8; 16];
+        let got = self.pass(16, Some(b'\n'), &mut room);
+        if got.stop == Stop::End && got.count == 0 {
+            return Ok(None);
+        }
+        if got.stop != Stop::Found {
+            return Err(NoNumber);
+        }
+        match crate::decimal(&room[..got.count]) {
+            Some(n) => Ok(Some(n)),
+            None => Err(NoNumber),
+        }
+    }
+
+    // Puts the next n bytes at the start of the room, as far as the input and the room go, and answers how many they are.
+    pub fn bring(&mut self, n: usize, room: &mut [u8]) -> usize
+        ensures { IsPrefixLen result room.new }
+    {
+        self.pass(n.min(room.len()), None, room).count
+    }
+
+    // Goes past n bytes, as far as the input goes, and answers how many they are.
+    pub fn skip(&mut self, n: usize) -> usize {
+        self.pass(n, None, &mut []).count
+    }
 }

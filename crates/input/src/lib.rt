@@ -3,32 +3,30 @@
 
 mod feed;
 mod limit;
+mod output;
 mod sizes;
 mod source;
 
-ghost use Rattle.std.specs.Prelude.{◌≤◌, length};
 ghost use Rattle.io.specs.Counts.{IsPrefixLen};
 
-pub use feed::{Brought, END, Feed, LF, NumberLine, bring, left, number_line, pass, skip, start};
+pub use feed::{Feed, NoNumber};
 pub use limit::stack_limit;
+pub use output::Output;
 pub use sizes::{
-    CHUNK, FEW_HEADERS, LARGE_FILE, LARGE_HEADERS, LARGE_ROWS, LARGE_SLOTS, MIDDLE_CHARS,
-    MIDDLE_ENDS, MIDDLE_FILE, MIDDLE_HEADERS, MIDDLE_NUMBERS, MIDDLE_REFS, MIDDLE_ROWS,
-    MIDDLE_SLOTS, SMALL_CHARS, SMALL_ENDS, SMALL_FILE, SMALL_HEADERS, SMALL_KEPT, SMALL_NUMBERS,
-    SMALL_REFS, SMALL_ROWS, SMALL_SLOTS, room,
+    CHUNK, FEW, LARGE, MIDDLE, MIDDLE_VALUES, SMALL, SMALL_KEPT, SMALL_VALUES, Sizes, TableRooms,
+    ValueRooms, ValueSizes, room,
 };
-pub use source::{OpenedInput, Source, argument, has_argument, open_argument, size};
-use std::io;
+pub use source::{OpenedInput, Source, argument, open_argument, size};
 use std::io::Read;
+use std::{io, str};
 
+// What was read into a room.
 #[derive(Clone, Copy)]
 pub struct BytesRead {
     // How many bytes were put at the start of the room.
     pub count: usize,
-    // 1 where a read failed, else 0.
-    pub failed: usize,
-    // The system's number of that failure, and 0 where there is none.
-    pub error: i32,
+    // Where a read failed: the system's number of that, and 0 where it has none.
+    pub failed: Option<i32>,
 }
 
 // Reads until the room is full, the input ends or a read fails.
@@ -36,31 +34,21 @@ pub fn fill<R: Read>(from: &mut R, room: &mut [u8]) -> BytesRead
     ensures { IsPrefixLen result.count room.new }
 {
     let mut count = 0;
-    let mut failed = 0;
-    let mut error = 0;
     while count < room.len() {
-        let got = read(from, &mut room[count..]);
-        failed = got.failed;
-        error = got.error;
-        if got.end == 0 {
-            break;
+        match from.read(&mut room[count..]) {
+            Ok(0) => break,
+            Ok(n) => count += n,
+            Err(e) => {
+                return BytesRead {
+                    count,
+                    failed: Some(number_of(&e)),
+                };
+            }
         }
-        count += got.end;
     }
     BytesRead {
         count,
-        failed,
-        error,
-    }
-}
-
-// What one read brings, none of it used.
-fn read<R: Read>(from: &mut R, room: &mut [u8]) -> Feed
-    ensures { result.end ≤ length room.new }
-{
-    match from.read(room) {
-        Ok(n) => feed::fresh(n, 0, 0),
-        Err(e) => feed::fresh(0, 1, number_of(&e)),
+        failed: None,
     }
 }
 
@@ -86,34 +74,10 @@ fn words_of(text: &str) -> &str {
     }
 }
 
-#[derive(Clone, Copy)]
-pub struct Value {
-    pub number: u64,
-    // The place behind the last digit.
-    pub end: usize,
-}
-
-// The number that the digits at a place are, sixteen of them at most.
-pub fn digits(s: &[u8], start: usize) -> Value {
-    let mut number: u64 = 0;
-    let mut end = start;
-    while end < s.len() {
-        let d = digit(s[end]);
-        if d > 9 {
-            break;
-        }
-        if number > 999999999999999 {
-            break;
-        }
-        number = number * 10 + d;
-        end += 1;
+// The number that decimal digits are; none where they are no digits alone, no digit, or too many for 64 bits.
+pub fn decimal(digits: &[u8]) -> Option<usize> {
+    if !digits.iter().all(|d| d.is_ascii_digit()) {
+        return None;
     }
-    Value { number, end }
-}
-
-// What a byte is worth as a decimal digit, and more than 9 where it is none.
-fn digit(b: u8) -> u64
-    ensures { result ≤ 255 }
-{
-    std::num::wrapping_sub_u8(b, b'0') as u64
+    str::from_utf8(digits).ok()?.parse().ok()
 }

@@ -1,7 +1,7 @@
 // How much stack the program may use, by which it chooses the size of its rooms.
 //
 // The limit is read as text.
-use crate::{digits, fill};
+use crate::fill;
 use std::fs;
 use std::rt::Files;
 
@@ -15,31 +15,15 @@ pub fn stack_limit<R: Files>(rt: &R) -> u64 {
     limit_in(&page)
 }
 
+// The words before the limit on the stack, in a line of the limits.
+const STACK: &[u8] = b"Max stack size            ";
+
 // The number in the limits' line on the stack; 0 where there is none.
-fn limit_in(s: &[u8]) -> u64 {
-    digits(s, behind(s, b"Max stack size            ")).number
-}
-
-// The place behind the words, or the end.
-fn behind(s: &[u8], words: &[u8]) -> usize {
-    let mut met = 0;
-    let mut at = 0;
-    while at < s.len() {
-        met = met_by(words, met, s[at]);
-        at += 1;
-        if met == words.len() {
-            break;
-        }
-    }
-    at
-}
-
-// How many bytes of the words are met with one byte more. The words begin a line: what is passed where they fail begins no others.
-fn met_by(words: &[u8], met: usize, b: u8) -> usize {
-    if met < words.len() {
-        if words[met] == b {
-            return met + 1;
-        }
-    }
-    0
+fn limit_in(page: &[u8]) -> u64 {
+    let Some(at) = page.windows(STACK.len()).position(|w| w == STACK) else {
+        return 0;
+    };
+    let behind = &page[at + STACK.len()..];
+    let n = behind.iter().take_while(|d| d.is_ascii_digit()).count();
+    crate::decimal(&behind[..n]).unwrap_or(0) as u64
 }

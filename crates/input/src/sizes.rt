@@ -11,53 +11,117 @@ pub fn room<T: Copy>(alloc: Global, zero: T, n: usize) -> Result<Vec<T>, AllocEr
     vec![in alloc; zero; n]
 }
 
+// How many bytes of a file, and how many numbers of header rows, data rows and id slots there is room for.
+#[derive(Clone, Copy)]
+pub struct Sizes {
+    pub file: usize,
+    pub headers: usize,
+    pub rows: usize,
+    pub slots: usize,
+}
+
+// What else a case needs room for: texts, the references of lists, other numbers of lists, and the ends of a grid's rows.
+#[derive(Clone, Copy)]
+pub struct ValueSizes {
+    pub chars: usize,
+    pub refs: usize,
+    pub numbers: usize,
+    pub ends: usize,
+}
+
+// The rooms for header rows, data rows and id slots.
+#[derive(Drop)]
+pub struct TableRooms {
+    pub headers: Vec<u32>,
+    pub rows: Vec<u32>,
+    pub slots: Vec<u64>,
+}
+
+impl TableRooms {
+    pub fn new(alloc: Global, n: Sizes) -> Result<TableRooms, AllocError> {
+        Ok(TableRooms {
+            headers: room(alloc, 0, n.headers)?,
+            rows: room(alloc, 0, n.rows)?,
+            slots: room(alloc, 0, n.slots)?,
+        })
+    }
+}
+
+// The rooms for texts, references, integers, reals and row ends.
+#[derive(Drop)]
+pub struct ValueRooms {
+    pub chars: Vec<u8>,
+    pub refs: Vec<u32>,
+    pub ints: Vec<i64>,
+    pub reals: Vec<f64>,
+    pub ends: Vec<usize>,
+}
+
+impl ValueRooms {
+    pub fn new(alloc: Global, n: ValueSizes) -> Result<ValueRooms, AllocError> {
+        Ok(ValueRooms {
+            chars: room(alloc, 0, n.chars)?,
+            refs: room(alloc, 0, n.refs)?,
+            ints: room(alloc, 0, n.numbers)?,
+            reals: room(alloc, 0.0, n.numbers)?,
+            ends: room(alloc, 0, n.ends)?,
+        })
+    }
+}
+
 // What is read of standard input at once, and written of standard output.
 pub const CHUNK: usize = 65536;
 
 // For a case of 256 KiB, whatever it holds. These fit a stack of 8 MiB.
-pub const SMALL_FILE: usize = 262145;
+pub const SMALL: Sizes = Sizes {
+    file: 262145,
+    headers: 349528,
+    rows: 262146,
+    slots: 43691,
+};
 
-pub const SMALL_HEADERS: usize = 349528;
+pub const SMALL_VALUES: ValueSizes = ValueSizes {
+    chars: 786432,
+    refs: 87382,
+    numbers: 131073,
+    ends: 87382,
+};
 
-pub const SMALL_ROWS: usize = 262146;
-
-pub const SMALL_SLOTS: usize = 43691;
-
-pub const SMALL_CHARS: usize = 786432;
-
-pub const SMALL_REFS: usize = 87382;
-
-pub const SMALL_NUMBERS: usize = 131073;
-
-pub const SMALL_ENDS: usize = 87382;
-
-pub const SMALL_KEPT: usize = 1048584;
+// Rows as they are kept are put into the room for texts, and read again into that for references. Of lists and grids one number is read.
+pub const SMALL_KEPT: ValueSizes = ValueSizes {
+    chars: 1048584,
+    refs: SMALL.rows,
+    numbers: 1,
+    ends: 1,
+};
 
 // For a case of 1 MiB, whatever it holds.
-pub const MIDDLE_FILE: usize = 1048577;
+pub const MIDDLE: Sizes = Sizes {
+    file: 1048577,
+    headers: 1398104,
+    rows: 1048578,
+    slots: 174763,
+};
 
-pub const MIDDLE_HEADERS: usize = 1398104;
-
-pub const MIDDLE_ROWS: usize = 1048578;
-
-pub const MIDDLE_SLOTS: usize = 174763;
-
-pub const MIDDLE_CHARS: usize = 3145728;
-
-pub const MIDDLE_REFS: usize = 349526;
-
-pub const MIDDLE_NUMBERS: usize = 524289;
-
-pub const MIDDLE_ENDS: usize = 349526;
+pub const MIDDLE_VALUES: ValueSizes = ValueSizes {
+    chars: 3145728,
+    refs: 349526,
+    numbers: 524289,
+    ends: 349526,
+};
 
 // 4,096 header records, for a file of 1 MiB on a stack of 8 MiB.
-pub const FEW_HEADERS: usize = 16384;
+pub const FEW: Sizes = Sizes {
+    file: MIDDLE.file,
+    headers: 16384,
+    rows: MIDDLE.rows,
+    slots: MIDDLE.slots,
+};
 
 // For a file of 64 MiB with a record for every 24 bytes, and 1,048,576 header records.
-pub const LARGE_FILE: usize = 67108865;
-
-pub const LARGE_HEADERS: usize = 4194304;
-
-pub const LARGE_ROWS: usize = 16777218;
-
-pub const LARGE_SLOTS: usize = 2796203;
+pub const LARGE: Sizes = Sizes {
+    file: 67108865,
+    headers: 4194304,
+    rows: 16777218,
+    slots: 2796203,
+};

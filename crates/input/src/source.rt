@@ -1,4 +1,5 @@
 // What is read: a file that an argument names, or standard input.
+ghost use Rattle.std.specs.Prelude.{IfSome};
 ghost use Rattle.io.specs.Counts.{IsPrefixLen};
 
 use crate::{fail, number_of};
@@ -31,19 +32,15 @@ pub struct OpenedInput<F, S> {
     pub name: usize,
 }
 
-// Puts an argument at the start of the room, and answers its length: 0 where it is missing or longer than the room.
-pub fn argument<R: Env>(rt: &R, i: usize, room: &mut [u8]) -> usize
-    ensures { IsPrefixLen result room.new }
+// Puts an argument at the start of the room, and answers its length: 0 where it is longer than the room; none where there is no such argument.
+// The program's own name is number 0.
+pub fn argument<R: Env>(rt: &R, i: usize, room: &mut [u8]) -> Option<usize>
+    ensures { IfSome result (λ n. IsPrefixLen n room.new) }
 {
-    rt.arg(i, room).unwrap_or(0)
-}
-
-// Whether the program has an argument of this number. Its own name is number 0.
-pub fn has_argument<R: Env>(rt: &R, i: usize) -> bool {
-    let mut none = [0u8; 1];
-    match rt.arg(i, &mut none) {
-        Err(FillError::NotPresent) => false,
-        _ => true,
+    match rt.arg(i, room) {
+        Ok(n) => Some(n),
+        Err(FillError::TooLong) => Some(0),
+        Err(FillError::NotPresent) => None,
     }
 }
 
@@ -90,7 +87,7 @@ fn open<R: Files + Input + Eprint + Alloc>(
     rt: &R,
     name: &[u8],
 ) -> Option<Source<R::File, R::Reader>> {
-    if is_dash(name) {
+    if matches!(name, b"-") {
         return Some(Source::Stdin(rt.reader()));
     }
     let Ok(text) = str::from_utf8(name) else {
@@ -106,34 +103,25 @@ fn open<R: Files + Input + Eprint + Alloc>(
     }
 }
 
-fn is_dash(name: &[u8]) -> bool {
-    if name.len() == 1 {
-        return name[0] == b'-';
-    }
-    false
-}
-
-// The size of what is read, which stays where it stands. u64::MAX where that is not told, as of a pipe.
-pub fn size<R: Files, S>(rt: &R, from: &mut Source<R::File, S>) -> u64 {
+// The size of what is read, which stays where it stands. None where that is not told, as of a pipe.
+pub fn size<R: Files, S>(rt: &R, from: &mut Source<R::File, S>) -> Option<u64> {
     match from {
         Source::File(file) => size_of_file(file),
         Source::Stdin(_) => size_of_input(rt),
     }
 }
 
-fn size_of_file<F: Seek>(file: &mut F) -> u64 {
-    let Ok(here) = file.seek(SeekFrom::Current(0)) else {
-        return u64::MAX;
-    };
+fn size_of_file<F: Seek>(file: &mut F) -> Option<u64> {
+    let here = file.seek(SeekFrom::Current(0)).ok()?;
     let end = file.seek(SeekFrom::End(0));
     let _ = file.seek(SeekFrom::Start(here));
-    end.unwrap_or(u64::MAX)
+    end.ok()
 }
 
 // The size of the file that standard input is. A file of no bytes may be one whose size is not told, as those of /proc.
-fn size_of_input<R: Files>(rt: &R) -> u64 {
+fn size_of_input<R: Files>(rt: &R) -> Option<u64> {
     match fs::metadata(rt, "/dev/stdin") {
-        Ok(found) if found.is_file() && found.len() > 0 => found.len(),
-        _ => u64::MAX,
+        Ok(found) if found.is_file() && found.len() > 0 => Some(found.len()),
+        _ => None,
     }
 }
