@@ -2,246 +2,132 @@
 //
 // A task's word begins a task, and the arguments up to the next such word are its files; `show` takes a record's id before them. A task
 // without a file reads standard input.
-ghost use Rattle.std.specs.Prelude.{◌≤◌};
-
+use std::env::FillError;
+use std::io::Write;
 use std::rt::Env;
+use std::{io, str};
 
-// What is to be done next.
-#[derive(Clone, Copy)]
-pub enum Job {
-    // To tell the usage of the task's word.
-    Usage,
-    // To do the task over a file.
-    File,
-    // Nothing: the file of a task whose usage was told is passed over.
-    Passed,
-    Over,
-}
-
-#[derive(Clone, Copy)]
-pub struct TaskCourse {
-    pub job: Job,
-    pub task: TaskWord,
-    // The id of the record to show.
-    pub id: u32,
-    // The argument that names the file; standard input is read where it is 0.
-    pub argument: usize,
-    // Whether the task has several files.
-    pub several: bool,
-    // The argument that is looked at next.
-    pub next: usize,
-}
-
-// What an argument may be.
+// A word that begins a task.
 #[derive(Clone, Copy)]
 pub enum TaskWord {
     List,
     Scale,
     Show,
     Inspect,
-    Help,
-    Other,
-    Missing,
 }
 
+// What is done over a file.
 #[derive(Clone, Copy)]
-enum Id {
-    Is(u32),
-    Bad,
+pub enum Task {
+    List,
+    Scale,
+    // With the id of the record to show.
+    Show(u32),
+    Inspect,
 }
 
-// What the first argument asks for. Where it is no task's word, all usage is told, and nothing else is done.
-pub fn start<R: Env>(rt: &R) -> TaskCourse {
-    let first = argument(rt, 1);
-    if is_task(first) {
-        return begun(rt, 1, first);
-    }
-    usage(TaskWord::Other, usize::MAX)
+// What an argument may be.
+#[derive(Clone, Copy)]
+pub enum Argument {
+    Task(TaskWord),
+    Help,
+    // Any other: a file's name, or an id.
+    Other,
 }
 
-// What comes after.
-pub fn after<R: Env>(rt: &R, last: TaskCourse) -> TaskCourse {
-    let at = last.next;
-    let word = argument(rt, at);
-    if is_task(word) {
-        return begun(rt, at, word);
-    }
-    let job = last.job;
-    let task = last.task;
-    TaskCourse {
-        job: behind(job, word),
-        task,
-        id: last.id,
-        argument: at,
-        several: last.several,
-        next: std::num::wrapping_add_usize(at, 1),
-    }
-}
-
-// What is done with an argument that is no task's word.
-fn behind(last: Job, word: TaskWord) -> Job {
-    if !is_file(word) {
-        return Job::Over;
-    }
-    match last {
-        Job::Usage | Job::Passed => Job::Passed,
-        _ => Job::File,
-    }
-}
-
-pub fn is_over(at: TaskCourse) -> bool {
-    let job = at.job;
-    match job {
-        Job::Over => true,
-        _ => false,
-    }
-}
-
-// The task whose word an argument is.
-fn begun<R: Env>(rt: &R, at: usize, word: TaskWord) -> TaskCourse {
-    let first = std::num::wrapping_add_usize(at, 1);
-    let behind = argument(rt, first);
-    if let TaskWord::Help = behind {
-        return usage(word, first);
-    }
-    match word {
-        TaskWord::Show => shown(rt, first),
-        _ => of(rt, word, 0, first),
-    }
-}
-
-// The usage of a task's word, or of all. What follows up to the next such word is passed over.
-fn usage(word: TaskWord, next: usize) -> TaskCourse {
-    TaskCourse {
-        job: Job::Usage,
-        task: word,
-        id: 0,
-        argument: 0,
-        several: false,
-        next,
-    }
-}
-
-// A task whose first file may be an argument.
-fn of<R: Env>(rt: &R, task: TaskWord, id: u32, first: usize) -> TaskCourse {
-    if is_file(argument(rt, first)) {
-        let second = std::num::wrapping_add_usize(first, 1);
-        return over(task, id, first, is_file(argument(rt, second)), second);
-    }
-    over(task, id, 0, false, first)
-}
-
-fn over(task: TaskWord, id: u32, argument: usize, several: bool, next: usize) -> TaskCourse {
-    TaskCourse {
-        job: Job::File,
-        task,
-        id,
-        argument,
-        several,
-        next,
-    }
-}
-
-// The task to show a record whose id an argument gives.
-fn shown<R: Env>(rt: &R, at: usize) -> TaskCourse {
-    let mut room = [0u8; 4096];
-    let n = input::argument(rt, at, &mut room);
-    match identified(&room[..n]) {
-        Id::Is(id) => of(rt, TaskWord::Show, id, std::num::wrapping_add_usize(at, 1)),
-        Id::Bad => usage(TaskWord::Show, at),
-    }
-}
-
-// The id that is given as `12` or `#12`.
-fn identified(t: &[u8]) -> Id {
-    if t.len() < 2 {
-        return numbered(t);
-    }
-    if t[0] == b'#' {
-        return numbered(&t[1..]);
-    }
-    numbered(t)
-}
-
-// The id that digits are, 4294967295 at most.
-fn numbered(t: &[u8]) -> Id {
-    let mut n: u64 = 0;
-    let mut i = 0;
-    while i < t.len() {
-        let d = digit(t[i]);
-        if d > 9 {
-            return Id::Bad;
+impl TaskWord {
+    fn purpose(self) -> &'static str {
+        match self {
+            TaskWord::List =>
+                "list [FILE..]: prints how many records each file has and its largest id, then a line a record: id, keyword, and where its arguments begin and end",
+            TaskWord::Scale =>
+                "scale [FILE..]: prints how many millimetres a file's unit of length has, how many radians its unit of angle, its tolerance, and whether it says so itself",
+            TaskWord::Show =>
+                "show ID [FILE..]: prints the record that is served for an id (12 or #12): its keyword, where its arguments stand, its parameters and parts",
+            TaskWord::Inspect =>
+                "inspect [FILE..]: prints a line a file: accepted, with counts, or refused, with the number, the place and the words",
         }
-        if n > 429496729 {
-            return Id::Bad;
-        }
-        n = n * 10 + d;
-        i += 1;
     }
-    if t.len() == 0 {
-        return Id::Bad;
+
+    // What the word is for.
+    pub fn usage<W: Write>(self, out: &mut W) -> io::Result<()> {
+        writeln!(out, "usage: {}", self.purpose())?;
+        usage_end(out)
     }
-    if n > 4294967295 {
-        return Id::Bad;
-    }
-    Id::Is(n as u32)
 }
 
-// What a byte is worth as a decimal digit, and 10 where it is none.
-fn digit(b: u8) -> u64
-    ensures { result ≤ 10 }
-{
-    if b < b'0' {
-        return 10;
+// What all words are for.
+pub fn all_usage<W: Write>(out: &mut W) -> io::Result<()> {
+    for word in [
+        TaskWord::List,
+        TaskWord::Scale,
+        TaskWord::Show,
+        TaskWord::Inspect,
+    ] {
+        writeln!(out, "usage: {}", word.purpose())?;
     }
-    if b > b'9' {
-        return 10;
-    }
-    (b - b'0') as u64
+    usage_end(out)
 }
 
-fn argument<R: Env>(rt: &R, at: usize) -> TaskWord {
+fn usage_end<W: Write>(out: &mut W) -> io::Result<()> {
+    writeln!(
+        out,
+        "without a file, and for the name -, standard input is read; a refusal is NUMBER/REASON@PLACE by document 01, and its words"
+    )
+}
+
+// What an argument is; none where there is no such one. One that is longer than its room is taken for a file's name.
+pub fn argument_at<R: Env>(rt: &R, at: usize) -> Option<Argument> {
     let mut room = [0u8; 4096];
-    let n = input::argument(rt, at, &mut room);
-    if !input::has_argument(rt, at) {
-        return TaskWord::Missing;
-    }
-    named(&room[..n])
+    let n = input::argument(rt, at, &mut room)?;
+    Some(match &room[..n] {
+        b"-h" | b"--help" => Argument::Help,
+        b"list" => Argument::Task(TaskWord::List),
+        b"scale" => Argument::Task(TaskWord::Scale),
+        b"show" => Argument::Task(TaskWord::Show),
+        b"inspect" => Argument::Task(TaskWord::Inspect),
+        _ => Argument::Other,
+    })
 }
 
-fn named(t: &[u8]) -> TaskWord {
-    if record::same_bytes(t, b"-h") || record::same_bytes(t, b"--help") {
-        return TaskWord::Help;
-    }
-    task_named(t)
+// The first argument from this one on that is no file's name: a task's word, or none.
+pub fn files_end<R: Env>(rt: &R, from: usize) -> usize {
+    (from..usize::MAX)
+        .find(|i| !is_file(rt, *i))
+        .unwrap_or(usize::MAX)
 }
 
-fn task_named(t: &[u8]) -> TaskWord {
-    if record::same_bytes(t, b"list") {
-        return TaskWord::List;
-    }
-    if record::same_bytes(t, b"scale") {
-        return TaskWord::Scale;
-    }
-    if record::same_bytes(t, b"show") {
-        return TaskWord::Show;
-    }
-    if record::same_bytes(t, b"inspect") {
-        return TaskWord::Inspect;
-    }
-    TaskWord::Other
+fn is_file<R: Env>(rt: &R, at: usize) -> bool {
+    matches!(
+        argument_at(rt, at),
+        Some(Argument::Help) | Some(Argument::Other)
+    )
 }
 
-fn is_task(word: TaskWord) -> bool {
-    match word {
-        TaskWord::List | TaskWord::Scale | TaskWord::Show | TaskWord::Inspect => true,
-        _ => false,
+// The task of a word that this argument stands behind; none where help is asked for, or `show` has no id.
+pub fn task_of<R: Env>(rt: &R, word: TaskWord, at: usize) -> Option<Task> {
+    if let Some(Argument::Help) = argument_at(rt, at) {
+        return None;
     }
+    Some(match word {
+        TaskWord::List => Task::List,
+        TaskWord::Scale => Task::Scale,
+        TaskWord::Show => Task::Show(id_at(rt, at)?),
+        TaskWord::Inspect => Task::Inspect,
+    })
 }
 
-fn is_file(word: TaskWord) -> bool {
-    match word {
-        TaskWord::Help | TaskWord::Other => true,
-        _ => false,
+fn id_at<R: Env>(rt: &R, at: usize) -> Option<u32> {
+    let mut room = [0u8; 4096];
+    let n = input::argument(rt, at, &mut room)?;
+    id(&room[..n])
+}
+
+// The id that is given as `12` or `#12`, 4294967295 at most.
+fn id(t: &[u8]) -> Option<u32> {
+    let digits = t.strip_prefix(b"#".as_slice()).unwrap_or(t);
+    if !digits.iter().all(|d| d.is_ascii_digit()) {
+        return None;
     }
+    str::from_utf8(digits).ok()?.parse().ok()
 }

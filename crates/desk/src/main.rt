@@ -4,124 +4,108 @@
 //   show     Shows one record of exchange files by its id
 //   inspect  Says of each exchange file that is named, in a line, whether it is accepted, or where and why it is refused
 //
-// What is to be said of a file is found first, as plain values, and put line by line in one place.
+// Nothing here ends where something cannot be written: the output tells of that at the end. So the answers of writing are passed on, and
+// let go where a file is done.
 #![tactic(auto)]
 
 mod command;
-mod lines;
+mod found;
 mod numerals;
 mod rooms;
-mod walk;
-mod work;
+mod show;
+mod shown;
 
-ghost use Rattle.io.specs.Counts.{IsPrefixLen};
-
-use command::{Job, TaskCourse, TaskWord};
-use input::{OpenedInput, Source};
-use printing::{Line, Pen};
+use command::{Argument, Task, TaskWord};
+use input::{Output, Source};
 use std::alloc::AllocError;
+use std::io;
+use std::io::Write;
 use std::rt::{Env, Files};
 
 // The error is a lack of memory for the rooms.
 fn main(rt: HostRuntime) -> Result<(), AllocError> {
-    let mut out = [0u8; 65536];
-    let said = tasks(&rt, input::stack_limit(&rt), &mut out)?;
-    printing::finish(&rt, &out, said);
+    let mut buffer = [0u8; 65536];
+    let mut out = Output::new(&rt, &mut buffer);
+    tasks(&rt, input::stack_limit(&rt), &mut out)?;
+    out.finish();
     Ok(())
 }
 
-// Does what the command line asks, one file after the other: all of them, or as many as 64 bits count.
+// Does what the command line asks, one task after the other. Where it does not begin with a task's word, all usage is told, and nothing else
+// is done.
 fn tasks<R: Env + Files + Input + Print + Eprint + AllocGlobal>(
     rt: &R,
     limit: u64,
-    out: &mut [u8],
-) -> Result<Pen, AllocError> {
-    let mut last = printing::fresh();
-    let mut at = command::start(rt);
-    let mut turns = u64::MAX;
-    while turns > 0 && !command::is_over(at) {
-        last = turn(rt, limit, at, out, last)?;
-        at = command::after(rt, at);
-        turns -= 1;
+    out: &mut Output<'_, '_, R>,
+) -> Result<(), AllocError> {
+    let mut at = 1;
+    for _ in 0..u64::MAX {
+        let Some(Argument::Task(word)) = command::argument_at(rt, at) else {
+            if at == 1 {
+                let _ = command::all_usage(out);
+            }
+            break;
+        };
+        at = task_at(rt, limit, word, at.saturating_add(1), out)?;
     }
-    Ok(last)
+    Ok(())
 }
 
-fn turn<R: Env + Files + Input + Print + Eprint + AllocGlobal>(
+// Does the task whose word stands before this argument, and answers which argument stands behind its files. Where only its usage is told, its
+// files are passed over.
+fn task_at<R: Env + Files + Input + Print + Eprint + AllocGlobal>(
     rt: &R,
     limit: u64,
-    at: TaskCourse,
-    out: &mut [u8],
-    pen: Pen,
-) -> Result<Pen, AllocError> {
-    let job = at.job;
-    let task = at.task;
-    match job {
-        Job::Usage => Ok(lines::told(rt, lines::usage(task), out, pen)),
-        Job::File => over_file(rt, limit, at, out, pen),
-        _ => Ok(pen),
+    word: TaskWord,
+    at: usize,
+    out: &mut Output<'_, '_, R>,
+) -> Result<usize, AllocError> {
+    let Some(task) = command::task_of(rt, word, at) else {
+        let _ = word.usage(out);
+        return Ok(command::files_end(rt, at));
+    };
+    let first = match task {
+        Task::Show(_) => at.saturating_add(1),
+        _ => at,
+    };
+    let end = command::files_end(rt, first);
+    if end == first {
+        let source = Some(Source::Stdin(rt.reader()));
+        rooms::read(rt, limit, task, source, out)?;
     }
+    for i in first..end {
+        over_file(rt, limit, task, i, end - first > 1, out)?;
+    }
+    Ok(end)
 }
 
-// Does a task over the file that an argument names, or over standard input where that is 0. The file is closed behind it; standard input
-// stays, for `-` may be named twice.
+// Does a task over the file that an argument names. The file is closed behind it; standard input stays, for `-` may be named twice.
 fn over_file<R: Env + Files + Input + Print + Eprint + AllocGlobal>(
     rt: &R,
     limit: u64,
-    at: TaskCourse,
-    out: &mut [u8],
-    pen: Pen,
-) -> Result<Pen, AllocError> {
-    let task = at.task;
-    let mut name = [0u8; 4096];
-    let opened = open(rt, at.argument, &mut name);
-    let n = opened.name;
-    let titled = printing::form(
-        rt,
-        out,
-        pen,
-        b"%b:%n\n%b: ",
-        &name[..n],
-        title(task, at.several, n),
-    );
-    // what is told so far is written first: where there is no memory for the rooms, it is not lost
-    let written = printing::flush(rt, out, titled);
-    rooms::read(rt, limit, task, at.id, opened.source, out, written)
-}
-
-fn open<R: Env + Files + Input + Eprint + Alloc>(
-    rt: &R,
+    task: Task,
     argument: usize,
-    name: &mut [u8],
-) -> OpenedInput<R::File, R::Reader>
-    ensures { IsPrefixLen result.name name.new }
-{
-    if argument == 0 {
-        return OpenedInput {
-            source: Some(Source::Stdin(rt.reader())),
-            name: 0,
-        };
-    }
-    input::open_argument(rt, argument, name)
+    several: bool,
+    out: &mut Output<'_, '_, R>,
+) -> Result<(), AllocError> {
+    let mut name = [0u8; 4096];
+    let opened = input::open_argument(rt, argument, &mut name);
+    let _ = title(task, several, &name[..opened.name], out);
+    rooms::read(rt, limit, task, opened.source, out)
 }
 
-// The patterns of a file's name: on a line of its own, and before what is said. 0 is no pattern's number.
-const ALONE: usize = 1;
-
-const BEFORE: usize = 2;
-
-const UNTOLD: usize = 0;
-
-// A file's name: before each verdict, and on a line of its own where there are several.
-fn title(task: TaskWord, several: bool, n: usize) -> Line {
-    if n == 0 {
-        return lines::of(UNTOLD, 0, 0);
+// A file's name: before each verdict, and on a line of its own where there are several. None is told where it is too long to be read.
+fn title<W: Write>(task: Task, several: bool, name: &[u8], out: &mut W) -> io::Result<()> {
+    if name.is_empty() {
+        return Ok(());
     }
-    if let TaskWord::Inspect = task {
-        return lines::of(BEFORE, 0, n as u64);
+    if let Task::Inspect = task {
+        out.write_all(name)?;
+        return write!(out, ": ");
     }
     if several {
-        return lines::of(ALONE, 0, n as u64);
+        out.write_all(name)?;
+        return writeln!(out, ":");
     }
-    lines::of(UNTOLD, 0, 0)
+    Ok(())
 }

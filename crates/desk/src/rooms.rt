@@ -2,278 +2,175 @@
 //
 // A file is read into rooms for 1 MiB. One that is larger, or has more records than these rooms, or of which the size is not told, is read
 // into rooms for 64 MiB, where the stack limit is above their size (`ulimit -s`; the script `step` raises it).
-ghost use Rattle.std.specs.Prelude.{◌≡◌, ℕ, ◌≤◌, length};
-ghost use Rattle.desk.specs.declared.rooms.Filled.TheVariants.{Whole};
+ghost use Rattle.std.specs.Prelude.{◌≤◌, length, IfOk};
 
-use crate::command::TaskWord;
-use crate::walk::LineStep;
-use crate::{lines, walk, work};
-use input::{
-    BytesRead, FEW_HEADERS, LARGE_FILE, LARGE_HEADERS, LARGE_ROWS, LARGE_SLOTS, MIDDLE_FILE,
-    MIDDLE_ROWS, MIDDLE_SLOTS, Source,
-};
-use printing::{Line, Pen};
+use crate::command::Task;
+use crate::found;
+use crate::shown::{Refusal, Spot, put_refusal, words};
+use error::Fault;
+use input::{FEW, LARGE, Output, Sizes, Source, TableRooms};
 use std::alloc::AllocError;
-use std::io::Read;
+use std::io::{Read, Write};
 use std::rt::Files;
+use std::{fmt, io};
 
 // The stack limit from which on the large rooms are taken: their size, with something over.
 const NEEDED: u64 = 188000000;
-
-// What came of a file: all is said, or it has more records than the rooms and nothing was said yet.
-#[derive(Clone, Copy)]
-struct Said {
-    pen: Pen,
-    outgrown: bool,
-}
 
 // Does a task over what was opened, if it could be.
 pub fn read<R: Files + Print + Eprint + AllocGlobal, S: Read + Drop>(
     rt: &R,
     limit: u64,
-    task: TaskWord,
-    id: u32,
+    task: Task,
     source: Option<Source<R::File, S>>,
-    out: &mut [u8],
-    pen: Pen,
-) -> Result<Pen, AllocError> {
+    out: &mut Output<'_, '_, R>,
+) -> Result<(), AllocError> {
+    // what is told so far is written first: where there is no memory for the rooms, it is not lost
+    let _ = out.flush();
     let Some(mut from) = source else {
-        return Ok(lines::told(rt, lines::bare(lines::UNOPENED), out, pen));
+        let _ = writeln!(out, "cannot be opened");
+        return Ok(());
     };
-    if limit >= NEEDED {
-        return grown(rt, task, id, &mut from, out, pen);
+    if limit < NEEDED {
+        return within(rt, FEW, FEW, task, &mut from, out);
     }
-    small(rt, false, task, id, &mut from, out, pen)
+    let is_small = match input::size(rt, &mut from) {
+        Some(n) => n < FEW.file as u64,
+        None => false,
+    };
+    let first = if is_small { FEW } else { LARGE };
+    within(rt, first, LARGE, task, &mut from, out)
 }
 
-// The same where there are large rooms for a file that outgrows the small ones.
-fn grown<R: Files + Print + Eprint + AllocGlobal, S: Read>(
+// Does the task with rooms of the first sizes, behind which those for rows of the last ones may follow for the bytes that were read.
+fn within<R: Files + Print + Eprint + AllocGlobal, S: Read>(
     rt: &R,
-    task: TaskWord,
-    id: u32,
+    first: Sizes,
+    last: Sizes,
+    task: Task,
     from: &mut Source<R::File, S>,
-    out: &mut [u8],
-    pen: Pen,
-) -> Result<Pen, AllocError> {
-    if input::size(rt, from) >= MIDDLE_FILE as u64 {
-        return large(rt, task, id, from, out, pen);
+    out: &mut Output<'_, '_, R>,
+) -> Result<(), AllocError> {
+    let mut file = input::room(rt.alloc(), 0, first.file)?;
+    let n = match whole(rt, from, file.as_mut_slice()) {
+        Ok(n) => n,
+        Err(why) => {
+            let _ = writeln!(out, "{why}");
+            return Ok(());
+        }
+    };
+    let bytes = &file[..n];
+    let Err(fault) = tell(rt, first, task, bytes, out)? else {
+        return Ok(());
+    };
+    if !matches!(fault, Fault::NoRow(_)) || first.rows == last.rows {
+        let _ = put_fault(first, task, bytes, fault, out);
+        return Ok(());
     }
-    small(rt, true, task, id, from, out, pen)
+    if let Err(fault) = tell(rt, last, task, bytes, out)? {
+        let _ = put_fault(last, task, bytes, fault, out);
+    }
+    Ok(())
 }
 
-// Does the task with a room for 1 MiB, and small rooms for rows, behind which large ones may follow for the bytes that were read.
-fn small<R: Files + Print + Eprint + AllocGlobal, S: Read>(
+// Tells what the task finds in a file's bytes, with rooms of these sizes for its rows. Of a refused file nothing is told yet.
+fn tell<R: Print + AllocGlobal>(
     rt: &R,
-    grows: bool,
-    task: TaskWord,
-    id: u32,
-    from: &mut Source<R::File, S>,
-    out: &mut [u8],
-    pen: Pen,
-) -> Result<Pen, AllocError> {
-    let mut file = input::room(rt.alloc(), 0u8, MIDDLE_FILE)?;
-    match within(rt, from, file.as_mut_slice()) {
-        Filled::Unread(l) => Ok(lines::told(rt, l, out, pen)),
-        Filled::Whole(n) => {
-            let said = lend_small(rt, grows, task, id, &file[..n], out, pen)?;
-            if said.outgrown {
-                return lend_large(rt, task, id, &file[..n], out, said.pen);
+    n: Sizes,
+    task: Task,
+    file: &[u8],
+    out: &mut Output<'_, '_, R>,
+) -> Result<Result<(), Fault>, AllocError> {
+    let mut tables = TableRooms::new(rt.alloc(), n)?;
+    match found::find(task, file, &mut tables) {
+        Ok(found) => {
+            let _ = found.tell(file, tables.rows.as_slice(), out);
+            Ok(Ok(()))
+        }
+        Err(fault) => Ok(Err(fault)),
+    }
+}
+
+// Why a file is not read whole.
+#[derive(Clone, Copy)]
+enum Unread {
+    // A read failed behind so many bytes.
+    Failed(usize),
+    // So many bytes fill the room, which is for one less; and the file's size, if it is told.
+    TooLarge(usize, Option<u64>),
+}
+
+impl fmt::Display for Unread {
+    fn fmt<W: fmt::Write>(&self, f: &mut fmt::Formatter<W>) -> fmt::Result {
+        match *self {
+            Unread::Failed(n) => write!(f, "cannot be read, after {n} bytes"),
+            Unread::TooLarge(n, size) => {
+                let most = n.saturating_sub(1);
+                let largest = LARGE.file - 1;
+                match size {
+                    Some(size) => write!(f, "too large: {size} bytes")?,
+                    None => write!(f, "too large: {n} or more bytes")?,
+                }
+                write!(f, ", and there is room for {most}")?;
+                if most < largest {
+                    write!(
+                        f,
+                        " (under a larger stack limit, as ./step sets it, for {largest})"
+                    )?;
+                }
+                Ok(())
             }
-            Ok(said.pen)
         }
     }
 }
 
-// Does the task over a file's bytes with small rooms for its rows.
-fn lend_small<R: Print + AllocGlobal>(
-    rt: &R,
-    grows: bool,
-    task: TaskWord,
-    id: u32,
-    t: &[u8],
-    out: &mut [u8],
-    pen: Pen,
-) -> Result<Said, AllocError> {
-    let mut headers = input::room(rt.alloc(), 0u32, FEW_HEADERS)?;
-    let mut rows = input::room(rt.alloc(), 0u32, MIDDLE_ROWS)?;
-    let mut slots = input::room(rt.alloc(), 0u64, MIDDLE_SLOTS)?;
-    Ok(answered(
-        rt,
-        grows,
-        task,
-        id,
-        t,
-        headers.as_mut_slice(),
-        rows.as_mut_slice(),
-        slots.as_mut_slice(),
-        out,
-        pen,
-    ))
-}
-
-// Does the task with large rooms.
-fn large<R: Files + Print + Eprint + AllocGlobal, S: Read>(
-    rt: &R,
-    task: TaskWord,
-    id: u32,
-    from: &mut Source<R::File, S>,
-    out: &mut [u8],
-    pen: Pen,
-) -> Result<Pen, AllocError> {
-    let mut file = input::room(rt.alloc(), 0u8, LARGE_FILE)?;
-    match within(rt, from, file.as_mut_slice()) {
-        Filled::Unread(l) => Ok(lines::told(rt, l, out, pen)),
-        Filled::Whole(n) => lend_large(rt, task, id, &file[..n], out, pen),
-    }
-}
-
-// Does the task over a file's bytes with large rooms for its rows.
-fn lend_large<R: Print + AllocGlobal>(
-    rt: &R,
-    task: TaskWord,
-    id: u32,
-    t: &[u8],
-    out: &mut [u8],
-    pen: Pen,
-) -> Result<Pen, AllocError> {
-    let mut headers = input::room(rt.alloc(), 0u32, LARGE_HEADERS)?;
-    let mut rows = input::room(rt.alloc(), 0u32, LARGE_ROWS)?;
-    let mut slots = input::room(rt.alloc(), 0u64, LARGE_SLOTS)?;
-    let said = answered(
-        rt,
-        false,
-        task,
-        id,
-        t,
-        headers.as_mut_slice(),
-        rows.as_mut_slice(),
-        slots.as_mut_slice(),
-        out,
-        pen,
-    );
-    Ok(said.pen)
-}
-
-// A file in its room: whole, in so many bytes; or why it is not.
-#[derive(Clone, Copy)]
-enum Filled {
-    Whole(usize),
-    Unread(Line),
-}
-
-// Reads a file into this room.
-fn within<R: Files + Eprint + Alloc, S: Read>(
+// Reads a file into this room, and answers how many bytes it has. Where a read fails, standard error says why.
+fn whole<R: Files + Eprint + Alloc, S: Read>(
     rt: &R,
     from: &mut Source<R::File, S>,
     file: &mut [u8],
-) -> Filled
-    ensures { (n : ℕ) → result ≡ Whole n → n ≤ length file.new }
+) -> Result<usize, Unread>
+    ensures { IfOk result (λ n. n ≤ length file.new) }
 {
     let got = input::fill(from, file);
     let n = got.count;
-    if got.failed != 0 || n == file.len() {
-        return Filled::Unread(unread(rt, from, got));
+    if let Some(error) = got.failed {
+        input::fail(rt, "read", error);
+        return Err(Unread::Failed(n));
     }
-    Filled::Whole(n)
-}
-
-// Does the task over a file's bytes, within these rooms for rows, which larger ones may follow.
-fn answered<R: Print>(
-    rt: &R,
-    grows: bool,
-    task: TaskWord,
-    id: u32,
-    t: &[u8],
-    headers: &mut [u32],
-    rows: &mut [u32],
-    slots: &mut [u64],
-    out: &mut [u8],
-    pen: Pen,
-) -> Said {
-    let found = work::answer(task, id, t, headers, rows, slots);
-    if grows && is_outgrown(found) {
-        return Said {
-            pen,
-            outgrown: true,
-        };
+    if n == file.len() {
+        return Err(Unread::TooLarge(n, input::size(rt, from)));
     }
-    let first = settled(task, t, headers.len(), rows.len(), found);
-    Said {
-        pen: lines::say(rt, t, rows, first, out, pen),
-        outgrown: false,
-    }
-}
-
-// Why a file is not read whole: a read failed, or the room for it is full, which is for one byte less.
-fn unread<R: Files + Eprint + Alloc, S>(
-    rt: &R,
-    from: &mut Source<R::File, S>,
-    got: BytesRead,
-) -> Line {
-    let n = got.count;
-    if got.failed != 0 {
-        input::fail(rt, "read", got.error);
-        return lines::of(lines::UNREAD, n as u64, 0);
-    }
-    let most = std::num::wrapping_sub_usize(n, 1) as u64;
-    let size = input::size(rt, from);
-    if size < u64::MAX {
-        return too_large(size, lines::EMPTY, most);
-    }
-    too_large(n as u64, lines::OR_MORE, most)
-}
-
-fn too_large(size: u64, more: u64, most: u64) -> Line {
-    let largest = LARGE_FILE as u64 - 1;
-    let pattern = if most < largest {
-        lines::TOO_LARGE_HERE
-    } else {
-        lines::TOO_LARGE
-    };
-    lines::line(pattern, size, more, most, largest, 0, 0, 0)
-}
-
-// Whether it is that the rooms for rows end.
-fn is_outgrown(s: LineStep) -> bool {
-    let l = s.line;
-    l.pattern == lines::REFUSED && l.a == 8
-}
-
-// What is told of it.
-fn settled(task: TaskWord, file: &[u8], headers: usize, rows: usize, s: LineStep) -> LineStep {
-    let l = s.line;
-    if l.pattern == lines::REFUSED {
-        return walk::only(refused(task, file, headers, rows, l));
-    }
-    s
+    Ok(n)
 }
 
 // A refusal: of 8, which speaks of rows that were lent, that the program's room ends and the file may be a good one; of another, where a
 // verdict is asked, with the line and the column.
-fn refused(task: TaskWord, file: &[u8], headers: usize, rows: usize, l: Line) -> Line {
-    if l.a == 8 {
-        return too_many(l.c, table::headers_fit(headers), table::rows_fit(rows));
+fn put_fault<W: Write>(n: Sizes, task: Task, file: &[u8], f: Fault, out: &mut W) -> io::Result<()> {
+    match (f, task) {
+        (Fault::NoRow(place), _) => put_too_many(n, place, out),
+        (_, Task::Inspect) => {
+            let spot = Spot::new(file, f.place());
+            writeln!(out, "refused {}, {spot}: {}", Refusal(f), words(f))
+        }
+        _ => put_refusal(out, f),
     }
-    if let TaskWord::Inspect = task {
-        return work::refused_at(file, l);
-    }
-    l
 }
 
-fn too_many(place: u64, headers: usize, records: usize) -> Line {
-    let pattern = if records < table::rows_fit(LARGE_ROWS) {
-        lines::TOO_MANY_HERE
-    } else {
-        lines::TOO_MANY
-    };
-    lines::line(
-        pattern,
-        place,
-        headers as u64,
-        records as u64,
-        table::headers_fit(LARGE_HEADERS) as u64,
-        table::rows_fit(LARGE_ROWS) as u64,
-        0,
-        0,
-    )
+fn put_too_many<W: Write>(n: Sizes, place: usize, out: &mut W) -> io::Result<()> {
+    let headers = table::headers_fit(n.headers);
+    let records = table::rows_fit(n.rows);
+    let most = table::rows_fit(LARGE.rows);
+    write!(
+        out,
+        "too many records: at {place} the program's own room ends, which is for {headers} header records and {records} data records"
+    )?;
+    if records < most {
+        let headers = table::headers_fit(LARGE.headers);
+        write!(
+            out,
+            " (under a larger stack limit, as ./step sets it, for {headers} header records and {most} data records)"
+        )?;
+    }
+    writeln!(out, "; the file is not refused")
 }

@@ -2,7 +2,7 @@ use Rattle.std.proofs.Common.{List, ℕ, [], ◌∷◌, ◌++◌, arith}
 use Rattle.io.specs.Digits.{last_digits}
 use Rattle.common.specs.Bytes.{bytes}
 use Rattle.desk.proofs.Laws.{put_then}
-use Rattle.desk.proofs.lines.superseded.Goals as goal
+use Rattle.desk.proofs.show.superseded.Goals as goal
 
 abbrev fore : List ℕ
 fore = bytes "the last of "

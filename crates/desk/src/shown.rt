@@ -1,0 +1,94 @@
+// How parts of a file and refusals are shown.
+use error::{Fault, Reason};
+use line_column::LineColumn;
+use std::io::Write;
+use std::{fmt, io};
+
+// A part of a file on one line: a byte below a space, or 127, is put as `\x` and its two hex digits, and the others as they are. A part that is
+// not in the file is put as none.
+pub fn put_part<W: Write>(out: &mut W, file: &[u8], start: usize, end: usize) -> io::Result<()> {
+    let bytes = file.get(start..end).unwrap_or(&[]);
+    for b in bytes {
+        if *b < b' ' || *b == 127 {
+            write!(out, "\\x{b:02x}")?;
+        } else {
+            out.write_all(&[*b])?;
+        }
+    }
+    Ok(())
+}
+
+// A refusal, as `NUMBER/REASON@PLACE`.
+#[derive(Clone, Copy)]
+pub struct Refusal(pub Fault);
+
+impl fmt::Display for Refusal {
+    fn fmt<W: fmt::Write>(&self, f: &mut fmt::Formatter<W>) -> fmt::Result {
+        let fault = self.0;
+        let number = fault.number();
+        let reason = fault.reason();
+        let place = fault.place();
+        write!(f, "{number}/{reason}@{place}")
+    }
+}
+
+// `refused NUMBER/REASON@PLACE: WORDS`
+pub fn put_refusal<W: Write>(out: &mut W, f: Fault) -> io::Result<()> {
+    writeln!(out, "refused {}: {}", Refusal(f), words(f))
+}
+
+// What a refusal means, in the words of document 01's table.
+pub fn words(f: Fault) -> &'static str {
+    match f {
+        Fault::NoMarker => "no Part 21 marker",
+        Fault::TooLong => "file too long",
+        Fault::OpenComment(_) => "comment open",
+        Fault::OpenString(_) => "string open",
+        Fault::NoEnd(_) => "record without ;",
+        Fault::OpenParen(_) => "parenthesis open",
+        Fault::BadRecord(why, _) => reason_words(why),
+        Fault::NoRow(_) => "no row left",
+        Fault::OutOfFile => "span or kept row outside the file or backwards",
+        Fault::NoParameter(_) => "no parameter left",
+        Fault::OpenLiteral(_) => "literal open in a parameter",
+        Fault::WrongType(_) => "parameter of another type",
+        Fault::OutsideClass(_) => "real outside the class",
+        Fault::NoRecord => "no record with this id",
+        Fault::TooDeep(_) => "unit chain too deep",
+        Fault::TooShort(_) => "output too short",
+    }
+}
+
+// Why a record is bad.
+fn reason_words(why: Reason) -> &'static str {
+    match why {
+        Reason::NoHeaderParen => "bad record: header record without (",
+        Reason::NoHash => "bad record: no #",
+        Reason::LargeId => "bad record: id above 4294967295",
+        Reason::NoDigits => "bad record: no digits",
+        Reason::NoEqual => "bad record: no =",
+        Reason::NoValue => "bad record: nothing after =",
+        Reason::NoParen => "bad record: no (",
+    }
+}
+
+// Where a place of a file stands, as `line L column C`, both from 1.
+#[derive(Clone, Copy)]
+pub struct Spot(LineColumn);
+
+impl Spot {
+    pub fn new(file: &[u8], place: usize) -> Spot {
+        match file.get(..place) {
+            Some(before) => Spot(line_column::spot(before)),
+            None => Spot(LineColumn { line: 0, column: 0 }),
+        }
+    }
+}
+
+impl fmt::Display for Spot {
+    fn fmt<W: fmt::Write>(&self, f: &mut fmt::Formatter<W>) -> fmt::Result {
+        let line = self.0.line.saturating_add(1);
+        let column = self.0.column.saturating_add(1);
+        write!(f, "line {line} column {column}")
+    }
+}
