@@ -4,43 +4,41 @@
 
 #![tactic(auto)]
 
-use input::{CHUNK, SMALL_FILE, SMALL_HEADERS, SMALL_KEPT, SMALL_ROWS, SMALL_SLOTS};
+use compare_lines::Opened;
+use compare_output::Course;
+use input::{SMALL, SMALL_KEPT, TableRooms, ValueRooms};
+use lookup::Tables;
 use std::alloc::AllocError;
-use std::rt::{Env, Files};
+use std::io;
+use std::io::Write;
 
-// Of lists and grids one number is read. The error is a lack of memory for the rooms.
-fn main(rt: HostRuntime) -> Result<(), AllocError> {
-    lend(&rt)
+#[derive(Drop)]
+struct Asks;
+
+impl Course for Asks {
+    fn tell<W: Write>(
+        &self,
+        _number: usize,
+        c: &Opened<'_>,
+        v: &mut ValueRooms,
+        out: &mut W,
+    ) -> io::Result<()> {
+        compare_lines::put_asked(c, v, out)?;
+        compare_lines::put_kept(c, v, out)
+    }
+
+    fn tell_last<W: Write>(
+        &self,
+        file: &[u8],
+        t: Tables,
+        tables: &mut TableRooms,
+        out: &mut W,
+    ) -> io::Result<()> {
+        compare_lines::put_full(file, t, tables, out)
+    }
 }
 
-// Lends the rooms to a run of cases.
-fn lend<R: Env + Files + Input + Print + Eprint + AllocGlobal>(rt: &R) -> Result<(), AllocError> {
-    let mut chunk = input::room(rt.alloc(), 0u8, CHUNK)?;
-    let mut out = input::room(rt.alloc(), 0u8, CHUNK)?;
-    let mut file = input::room(rt.alloc(), 0u8, SMALL_FILE)?;
-    let mut heads = input::room(rt.alloc(), 0u32, SMALL_HEADERS)?;
-    let mut rows = input::room(rt.alloc(), 0u32, SMALL_ROWS)?;
-    let mut slots = input::room(rt.alloc(), 0u64, SMALL_SLOTS)?;
-    let mut bytes = input::room(rt.alloc(), 0u8, SMALL_KEPT)?;
-    let mut again = input::room(rt.alloc(), 0u32, SMALL_ROWS)?;
-    let mut ints = [0i64; 1];
-    let mut reals = [0.0; 1];
-    let mut ends = [0usize; 1];
-    compare_output::all(
-        rt,
-        chunk.as_mut_slice(),
-        file.as_mut_slice(),
-        heads.as_mut_slice(),
-        rows.as_mut_slice(),
-        slots.as_mut_slice(),
-        bytes.as_mut_slice(),
-        again.as_mut_slice(),
-        &mut ints,
-        &mut reals,
-        &mut ends,
-        out.as_mut_slice(),
-        compare_lines::COUNTS,
-        0,
-    );
-    Ok(())
+// The error is a lack of memory for the rooms.
+fn main(rt: HostRuntime) -> Result<(), AllocError> {
+    compare_output::run(&rt, &Asks, SMALL, SMALL_KEPT)
 }

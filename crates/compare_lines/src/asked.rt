@@ -1,156 +1,190 @@
-// The lines `count`, `i`, `w`, `y`, `c` and `u`: what a file's rows answer when they are asked by id, by row and by kind, and what its
-// records answer one by one. By their number in their stage; past the last one there is no line.
-use crate::patterns::{
-    COUNT, EMPTY, ITEM, KEYWORD, KEYWORD_REFUSED, KINDS, LINE_END, MARK, MARK_END, NONE, NUMBER,
-    PART_SPAN, PARTS, RECORD_UNITS, REQUIRED, SPAN, UNITS_REFUSED, eight, mark, mark_after, none,
-    three, two,
-};
-use crate::rows::{Wanted, id_wanted, values};
+// What `asks` says: the lines `count`, `i`, `w`, `y`, `c`, `u`, `n`, `short` and `nine`. What a file's rows answer when they are asked by id, by
+// row and by kind, and what its records answer one by one.
+use crate::opened::{Opened, part_of, put_values, state_of};
+use crate::outside::put_outside;
+use crate::readers::put_lists;
+use crate::shown::{Hex, Mark};
+use input::ValueRooms;
 use kinds::Kind;
-use lookup::{Entry, Required, RowOrNone, Spanned, Tables};
-use parts::Next;
-use printing::Line;
+use params::State;
 use statement::RecordSpan;
-use units::Resolved;
+use std::io;
+use std::io::Write;
 
-// How many kinds there are.
-const ALL_KINDS: usize = 12;
+// The kinds in their order.
+const ALL_KINDS: [Kind; 12] = [
+    Kind::GeometricRepresentationContext,
+    Kind::GlobalUnitAssignedContext,
+    Kind::GlobalUncertaintyAssignedContext,
+    Kind::LengthUnit,
+    Kind::PlaneAngleUnit,
+    Kind::SolidAngleUnit,
+    Kind::SiUnit,
+    Kind::ConversionBasedUnit,
+    Kind::UncertaintyMeasureWithUnit,
+    Kind::LengthMeasureWithUnit,
+    Kind::Complex,
+    Kind::Other,
+];
 
-// The kinds in their order, `Other` for every number past them.
-fn kind_at(i: usize) -> Kind {
-    match i {
-        0 => Kind::GeometricRepresentationContext,
-        1 => Kind::GlobalUnitAssignedContext,
-        2 => Kind::GlobalUncertaintyAssignedContext,
-        3 => Kind::LengthUnit,
-        4 => Kind::PlaneAngleUnit,
-        5 => Kind::SolidAngleUnit,
-        6 => Kind::SiUnit,
-        7 => Kind::ConversionBasedUnit,
-        8 => Kind::UncertaintyMeasureWithUnit,
-        9 => Kind::LengthMeasureWithUnit,
-        10 => Kind::Complex,
-        _ => Kind::Other,
-    }
+// All but what needs a room for kept rows, or for tables.
+pub fn put_asked<W: Write>(c: &Opened<'_>, v: &mut ValueRooms, out: &mut W) -> io::Result<()> {
+    let is_empty = lookup::is_empty(c.t);
+    writeln!(out, "count {} {}", lookup::len(c.t), u8::from(is_empty))?;
+    put_by_id(c, v.chars.as_mut_slice(), out)?;
+    put_keywords(c, out)?;
+    put_by_kind(c, out)?;
+    put_records(c, out)?;
+    put_reads(c, v, out)?;
+    put_outside(c.file, out)
 }
 
-// `count N EMPTY`: how many records there are, and 1 where there is none.
-pub fn counts(t: Tables, i: usize) -> Line {
-    if i > 0 {
-        return none();
+// `i ID KIND` of each id that is asked for, `-` where the kind has no name; behind it what `require` says, and then `args`.
+fn put_by_id<W: Write>(c: &Opened<'_>, chars: &mut [u8], out: &mut W) -> io::Result<()> {
+    for i in 0..usize::MAX {
+        let Some(id) = c.wanted(i) else {
+            break;
+        };
+        let kind = lookup::kind_of(c.file, c.rows, c.slots, c.t, id);
+        write!(out, "i {id} ")?;
+        match kinds::as_str(kind, chars) {
+            Some(0) => write!(out, "-")?,
+            Some(n) => out.write_all(&chars[..n.min(chars.len())])?,
+            None => write!(out, "?")?,
+        }
+        put_required(c, id, out)?;
+        match lookup::args(c.file, c.rows, c.slots, c.t, id) {
+            Ok(s) => writeln!(out, " {} {}", s.start, s.end)?,
+            Err(f) => writeln!(out, " {}", Mark(f))?,
+        }
     }
-    two(COUNT, lookup::len(t), flag(lookup::is_empty(t)))
-}
-
-pub fn flag(yes: bool) -> usize {
-    if yes { 1 } else { 0 }
-}
-
-// What `require` says behind `i ID KIND`, and then `args`.
-pub fn by_id(file: &[u8], rows: &[u32], slots: &[u64], t: Tables, i: usize, k: usize) -> Line {
-    match id_wanted(rows, t, i) {
-        Wanted::Over => none(),
-        Wanted::Id(id) => if k == 1 {
-            required(rows, slots, t, id)
-        } else {
-            spanned(file, rows, slots, t, id)
-        },
-    }
+    Ok(())
 }
 
 // A row's numbers but for its id, or the refusal.
-fn required(rows: &[u32], slots: &[u64], t: Tables, id: u32) -> Line {
-    match lookup::require(rows, slots, t, id) {
-        Required::Row(w) => eight(
-            REQUIRED,
-            w.keyword.start,
-            w.keyword.end,
-            w.args.start,
-            w.args.end,
-            common::wide(w.complex),
-            0,
-            0,
-            0,
-        ),
-        Required::Refused(f) => mark(MARK, f),
-    }
-}
-
-fn spanned(file: &[u8], rows: &[u32], slots: &[u64], t: Tables, id: u32) -> Line {
-    match lookup::args(file, rows, slots, t, id) {
-        Spanned::Span(s) => two(SPAN, s.start, s.end),
-        Spanned::Refused(f) => mark(MARK_END, f),
+fn put_required<W: Write>(c: &Opened<'_>, id: u32, out: &mut W) -> io::Result<()> {
+    match lookup::require(c.rows, c.slots, c.t, id) {
+        Ok(w) => {
+            let k = w.keyword;
+            let a = w.args;
+            write!(
+                out,
+                " {} {} {} {} {}",
+                k.start, k.end, a.start, a.end, w.complex
+            )
+        }
+        Err(f) => write!(out, " {}", Mark(f)),
     }
 }
 
 // `w I HEX` of each row: its keyword, `-` where it is complex.
-pub fn keyword(file: &[u8], rows: &[u32], t: Tables, i: usize) -> Line {
-    match lookup::entity(rows, t, i) {
-        Entry::Nothing => none(),
-        Entry::Row(r) => keyword_line(file, i, r),
+fn put_keywords<W: Write>(c: &Opened<'_>, out: &mut W) -> io::Result<()> {
+    for i in 0..c.t.records {
+        let Some(w) = lookup::entity(c.rows, c.t, i) else {
+            break;
+        };
+        match lookup::keyword(c.file, w) {
+            Ok(s) => writeln!(out, "w {i} {}", Hex(part_of(c.file, s.start, s.end)))?,
+            Err(f) => writeln!(out, "w {i} {}", Mark(f))?,
+        }
     }
-}
-
-fn keyword_line(file: &[u8], i: usize, r: RecordSpan) -> Line {
-    match lookup::keyword(file, r) {
-        Spanned::Span(s) => three(KEYWORD, i, s.start, s.end),
-        Spanned::Refused(f) => mark_after(KEYWORD_REFUSED, i, f),
-    }
+    Ok(())
 }
 
 // `y ROWS ROWS ..`: for each kind the rows that `by_kind` gives one after the other, joined by commas, `-` where there is none.
-pub fn by_kind(file: &[u8], rows: &[u32], t: Tables, i: usize, k: usize, from: usize) -> Line {
-    if i == 0 {
-        return two(KINDS, 0, 0);
+fn put_by_kind<W: Write>(c: &Opened<'_>, out: &mut W) -> io::Result<()> {
+    write!(out, "y")?;
+    for kind in ALL_KINDS {
+        put_rows_of_kind(c, kind, out)?;
     }
-    if i > 1 {
-        return none();
-    }
-    if k >= ALL_KINDS {
-        return two(LINE_END, 0, 0);
-    }
-    row_of_kind(lookup::by_kind(file, rows, t, kind_at(k), from), from)
+    writeln!(out)
 }
 
-fn row_of_kind(r: RowOrNone, from: usize) -> Line {
-    match r {
-        RowOrNone::At(i) => two(if from == 0 { NUMBER } else { ITEM + 1 }, i, 0),
-        RowOrNone::Nothing => two(if from == 0 { NONE } else { EMPTY }, 0, 0),
+fn put_rows_of_kind<W: Write>(c: &Opened<'_>, kind: Kind, out: &mut W) -> io::Result<()> {
+    let mut from = 0;
+    for _ in 0..u64::MAX {
+        match lookup::by_kind(c.file, c.rows, c.t, kind, from) {
+            Some(i) => {
+                write!(out, "{}{i}", if from == 0 { " " } else { "," })?;
+                from = i.saturating_add(1);
+            }
+            None => {
+                return if from == 0 { write!(out, " -") } else { Ok(()) };
+            }
+        }
     }
+    Ok(())
 }
 
 // `c I` and for each kind where the arguments of the first part of that kind start and end, `-` where there is none, or the refusal.
 // Then `u I` and the units of the record as a context.
-pub fn record(file: &[u8], rows: &[u32], slots: &[u64], t: Tables, i: usize, k: usize) -> Line {
-    match lookup::entity(rows, t, i) {
-        Entry::Nothing => none(),
-        Entry::Row(r) => match k {
-            0 => two(PARTS, i, 0),
-            13 => two(LINE_END, 0, 0),
-            14 => record_units(file, rows, slots, t, i, r),
-            _ => part(file, r, kind_at(std::num::wrapping_sub_usize(k, 1))),
-        },
+fn put_records<W: Write>(c: &Opened<'_>, out: &mut W) -> io::Result<()> {
+    for i in 0..c.t.records {
+        let Some(w) = lookup::entity(c.rows, c.t, i) else {
+            break;
+        };
+        write!(out, "c {i}")?;
+        for kind in ALL_KINDS {
+            put_part(c.file, w, kind, out)?;
+        }
+        write!(out, "\nu {i}")?;
+        let units = units::units_of_context(c.file, c.rows, c.slots, c.t, w);
+        put_values(units, out)?;
+    }
+    Ok(())
+}
+
+fn put_part<W: Write>(file: &[u8], w: RecordSpan, kind: Kind, out: &mut W) -> io::Result<()> {
+    match parts::complex_part(file, w.args.start, w.args.end, w.complex, kind) {
+        Ok(Some(p)) => write!(out, " {}:{}", p.args.start, p.args.end),
+        Ok(None) => write!(out, " -"),
+        Err(f) => write!(out, " {}", Mark(f)),
     }
 }
 
-fn part(file: &[u8], r: RecordSpan, kind: Kind) -> Line {
-    match parts::complex_part(file, r.args.start, r.args.end, r.complex, kind) {
-        Next::Over => two(NONE, 0, 0),
-        Next::Refused(f) => mark(MARK, f),
-        Next::Is(p) => two(PART_SPAN, p.args.start, p.args.end),
+// Of each row's arguments what is said of 0, 1, 2 and 5 parameters, and the readers in rooms for one.
+fn put_reads<W: Write>(c: &Opened<'_>, v: &mut ValueRooms, out: &mut W) -> io::Result<()> {
+    for i in 0..c.t.headers {
+        let at = state_of(table::read_header(c.heads, i).args);
+        put_row_reads(c.file, 'h', i, at, v, out)?;
     }
+    for i in 0..c.t.records {
+        let Some(w) = lookup::entity(c.rows, c.t, i) else {
+            break;
+        };
+        put_row_reads(c.file, 'r', i, state_of(w.args), v, out)?;
+    }
+    Ok(())
 }
 
-fn record_units(
+// `n h I` or `n r I`, and what `skip_n` and then `is_empty` say; then `short h I` or `short r I`, and the readers that need a room.
+fn put_row_reads<W: Write>(
     file: &[u8],
-    rows: &[u32],
-    slots: &[u64],
-    t: Tables,
+    table: char,
     i: usize,
-    r: RecordSpan,
-) -> Line {
-    match units::units_of_context(file, rows, slots, t, r) {
-        Resolved::Is(u) => values(RECORD_UNITS, i, u),
-        Resolved::Refused(f) => mark_after(UNITS_REFUSED, i, f),
+    at: State,
+    v: &mut ValueRooms,
+    out: &mut W,
+) -> io::Result<()> {
+    write!(out, "n {table} {i}")?;
+    for n in [0, 1, 2, 5] {
+        put_skips(file, at, n, out)?;
+    }
+    writeln!(out, "\nshort {table} {i}")?;
+    put_lists(file, at, 1, v, out)
+}
+
+// ` @P`, and `!NO/REASON@PLACE` where it is refused: n parameters skipped. Then, from there, `,1@P` where no parameter is left, `,0@P` where
+// one is, and where the reader then stands; or the refusal.
+fn put_skips<W: Write>(file: &[u8], at: State, n: usize, out: &mut W) -> io::Result<()> {
+    let mut to = at;
+    let skipped = params::skip_n(file, &mut to, n);
+    write!(out, " @{}", to.place)?;
+    if let Err(f) = skipped {
+        write!(out, "!{}", Mark(f))?;
+    }
+    match params::is_empty(file, &mut to) {
+        Ok(yes) => write!(out, ",{}@{}", u8::from(yes), to.place),
+        Err(f) => write!(out, "!{}", Mark(f)),
     }
 }

@@ -1,176 +1,172 @@
-// What each reader says at one state: its name, the place where it then stands, and its answer or its refusal.
-use crate::patterns::{
-    BELOW, BITS, COUNTED, LISTED, NAN_ITEM, NO, REFUSED, SPELT, SPELT_IN_ROOM, STANDS, UNKNOWN,
-    UNSET, WORDED, YES, bits_after, eight, mark_behind, three, two,
-};
-use crate::pieces::{NAN, bits, size};
+// What each reader says at one place: its name, the place where it then stands, and its answer or its refusal.
+use crate::opened::{part_of, text_bytes};
+use crate::shown::{Answer, Hex, Item, Joined, Mark};
 use error::Fault;
-use grids::NextGrid;
-use lists::NextList;
-use params::{Skipped, State};
-use printing::Line;
-use scalars::{NextOptReal, NextOptRef, NextReal, NextRef, NextTruth, NextWhole};
-use words::{NextName, NextText};
+use grids::Size;
+use input::ValueRooms;
+use params::State;
+use std::io;
+use std::io::Write;
 
-// The readers by their place in the form's order, which is that of their names in the table of patterns.
-pub const REF: usize = 1;
-
-pub const OPT_REF: usize = 2;
-
-pub const I64: usize = 3;
-
-pub const F64: usize = 4;
-
-pub const OPT_F64: usize = 5;
-
-pub const MEASURE: usize = 6;
-
-pub const ENUM: usize = 7;
-
-pub const BOOL: usize = 8;
-
-// Those from here to the last grid need a room.
-pub const STR: usize = 9;
-
-pub const REF_LIST: usize = 10;
-
-pub const I64_LIST: usize = 11;
-
-pub const F64_LIST: usize = 12;
-
-pub const REF_GRID: usize = 13;
-
-pub const F64_GRID: usize = 14;
-
-pub const SKIP: usize = 15;
-
-// What a reader says that needs no room.
-pub fn told(file: &[u8], at: State, reader: usize) -> Line {
-    match reader {
-        REF => reference(file, at),
-        OPT_REF => opt_reference(file, at),
-        I64 => whole(file, at),
-        F64 | MEASURE => real(file, at, reader),
-        OPT_F64 => opt_real(file, at),
-        ENUM => name(file, at),
-        BOOL => truth(file, at),
-        _ => skipped(file, at),
+// `NAME @PLACE ANSWER`, or the refusal.
+fn put_read<W: Write>(
+    name: &str,
+    to: State,
+    got: Result<Answer<'_>, Fault>,
+    out: &mut W,
+) -> io::Result<()> {
+    match got {
+        Ok(answer) => writeln!(out, "{name} @{} {answer}", to.place),
+        Err(f) => writeln!(out, "{name} @{} {}", to.place, Mark(f)),
     }
 }
 
-fn refused(reader: usize, place: usize, f: Fault) -> Line {
-    mark_behind(REFUSED, reader, place, f)
-}
-
-fn counted(reader: usize, place: usize, n: u32) -> Line {
-    three(COUNTED, reader, place, n as usize)
-}
-
-fn worded(reader: usize, place: usize, word: usize) -> Line {
-    three(WORDED, reader, place, word)
-}
-
-fn measured(reader: usize, place: usize, x: f64) -> Line {
-    let b = bits(x);
-    if b == NAN {
-        return worded(reader, place, NAN_ITEM);
-    }
-    bits_after(BITS, reader, place, b)
-}
-
-fn spelt(pattern: usize, reader: usize, place: usize, start: usize, stop: usize) -> Line {
-    eight(pattern, reader, place, start, stop, 0, 0, 0, 0)
-}
-
-fn reference(file: &[u8], at: State) -> Line {
-    match scalars::next_ref(file, at) {
-        NextRef::Value(n, to) => counted(REF, to.place, n),
-        NextRef::Refused(f, to) => refused(REF, to.place, f),
+// What a reader that may meet `$` answers.
+fn optional<T: Item>(got: Option<T>) -> Answer<'static> {
+    match got {
+        Some(x) => x.answer(),
+        None => Answer::Unset,
     }
 }
 
-fn opt_reference(file: &[u8], at: State) -> Line {
-    match scalars::next_opt_ref(file, at) {
-        NextOptRef::Value(n, to) => counted(OPT_REF, to.place, n),
-        NextOptRef::Unset(to) => worded(OPT_REF, to.place, UNSET),
-        NextOptRef::Refused(f, to) => refused(OPT_REF, to.place, f),
+// Of the readers that need no room.
+pub fn put_scalars<W: Write>(file: &[u8], at: State, out: &mut W) -> io::Result<()> {
+    let mut to = at;
+    let got = scalars::next_ref(file, &mut to).map(|n| n.answer());
+    put_read("ref", to, got, out)?;
+    to = at;
+    let got = scalars::next_opt_ref(file, &mut to).map(|n| optional(n));
+    put_read("opt_ref", to, got, out)?;
+    to = at;
+    let got = scalars::next_i64(file, &mut to).map(|n| n.answer());
+    put_read("i64", to, got, out)?;
+    to = at;
+    let got = scalars::next_f64(file, &mut to).map(|x| x.answer());
+    put_read("f64", to, got, out)?;
+    to = at;
+    let got = scalars::next_opt_f64(file, &mut to).map(|x| optional(x));
+    put_read("opt_f64", to, got, out)?;
+    to = at;
+    let got = scalars::next_measure_f64(file, &mut to).map(|x| x.answer());
+    put_read("measure", to, got, out)?;
+    put_words(file, at, out)
+}
+
+fn put_words<W: Write>(file: &[u8], at: State, out: &mut W) -> io::Result<()> {
+    let mut to = at;
+    let got = words::next_enum(file, &mut to).map(|word| Answer::Part(part_of(
+        file, word.start, word.stop,
+    )));
+    put_read("enum", to, got, out)?;
+    to = at;
+    let got = scalars::next_bool(file, &mut to).map(|truth| Answer::Truth(truth));
+    put_read("bool", to, got, out)
+}
+
+// Of those that read into rooms, of which so much is lent to a text or to references.
+pub fn put_lists<W: Write>(
+    file: &[u8],
+    at: State,
+    most: usize,
+    v: &mut ValueRooms,
+    out: &mut W,
+) -> io::Result<()> {
+    put_text(file, at, most, v, out)?;
+    let n = most.min(v.refs.len());
+    let mut to = at;
+    let got = lists::next_ref_list(file, &mut to, &mut v.refs[..n]);
+    put_list("ref_list", to, got, v.refs.as_slice(), out)?;
+    to = at;
+    let got = lists::next_i64_list(file, &mut to, v.ints.as_mut_slice());
+    put_list("i64_list", to, got, v.ints.as_slice(), out)?;
+    to = at;
+    let got = lists::next_f64_list(file, &mut to, v.reals.as_mut_slice());
+    put_list("f64_list", to, got, v.reals.as_slice(), out)?;
+    put_grids(file, at, n, v, out)
+}
+
+fn put_text<W: Write>(
+    file: &[u8],
+    at: State,
+    most: usize,
+    v: &mut ValueRooms,
+    out: &mut W,
+) -> io::Result<()> {
+    let n = most.min(v.chars.len());
+    let mut to = at;
+    match words::next_str(file, &mut to, &mut v.chars[..n]) {
+        Ok(text) => {
+            let bytes = Hex(text_bytes(file, text, v.chars.as_slice()));
+            writeln!(out, "str @{} {bytes}", to.place)
+        }
+        Err(f) => put_read("str", to, Err(f), out),
     }
 }
 
-fn whole(file: &[u8], at: State) -> Line {
-    match scalars::next_i64(file, at) {
-        NextWhole::Value(n, to) => signed(to.place, n),
-        NextWhole::Refused(f, to) => refused(I64, to.place, f),
+fn put_grids<W: Write>(
+    file: &[u8],
+    at: State,
+    refs: usize,
+    v: &mut ValueRooms,
+    out: &mut W,
+) -> io::Result<()> {
+    let n = refs.min(v.refs.len());
+    let mut to = at;
+    let got = grids::next_ref_grid(file, &mut to, &mut v.refs[..n], v.ends.as_mut_slice());
+    put_grid(
+        "ref_grid",
+        to,
+        got,
+        v.refs.as_slice(),
+        v.ends.as_slice(),
+        out,
+    )?;
+    to = at;
+    let got = grids::next_f64_grid(file, &mut to, v.reals.as_mut_slice(), v.ends.as_mut_slice());
+    put_grid(
+        "f64_grid",
+        to,
+        got,
+        v.reals.as_slice(),
+        v.ends.as_slice(),
+        out,
+    )
+}
+
+// A list, whose items are in a room.
+fn put_list<W: Write, T: Item>(
+    name: &str,
+    to: State,
+    got: Result<usize, Fault>,
+    room: &[T],
+    out: &mut W,
+) -> io::Result<()> {
+    match got {
+        Ok(n) => writeln!(
+            out,
+            "{name} @{} {}",
+            to.place,
+            Joined(&room[..n.min(room.len())])
+        ),
+        Err(f) => put_read(name, to, Err(f), out),
     }
 }
 
-fn signed(place: usize, n: i64) -> Line {
-    bits_after(if n < 0 { BELOW } else { COUNTED }, I64, place, size(n))
-}
-
-fn real(file: &[u8], at: State, reader: usize) -> Line {
-    let r = if reader == F64 {
-        scalars::next_f64(file, at)
-    } else {
-        scalars::next_measure_f64(file, at)
-    };
-    match r {
-        NextReal::Value(x, to) => measured(reader, to.place, x),
-        NextReal::Refused(f, to) => refused(reader, to.place, f),
-    }
-}
-
-fn opt_real(file: &[u8], at: State) -> Line {
-    match scalars::next_opt_f64(file, at) {
-        NextOptReal::Value(x, to) => measured(OPT_F64, to.place, x),
-        NextOptReal::Unset(to) => worded(OPT_F64, to.place, UNSET),
-        NextOptReal::Refused(f, to) => refused(OPT_F64, to.place, f),
-    }
-}
-
-fn name(file: &[u8], at: State) -> Line {
-    match words::next_enum(file, at) {
-        NextName::Name(start, stop, to) => spelt(SPELT, ENUM, to.place, start, stop),
-        NextName::Refused(f, to) => refused(ENUM, to.place, f),
-    }
-}
-
-fn truth(file: &[u8], at: State) -> Line {
-    match scalars::next_bool(file, at) {
-        NextTruth::True(to) => worded(BOOL, to.place, YES),
-        NextTruth::False(to) => worded(BOOL, to.place, NO),
-        NextTruth::Unknown(to) => worded(BOOL, to.place, UNKNOWN),
-        NextTruth::Refused(f, to) => refused(BOOL, to.place, f),
-    }
-}
-
-fn skipped(file: &[u8], at: State) -> Line {
-    match params::skip(file, at) {
-        Skipped::Past(to) => two(STANDS, SKIP, to.place),
-        Skipped::Refused(f, to) => refused(SKIP, to.place, f),
-    }
-}
-
-// What a text says that was read into a room, or is shown in the file.
-pub fn text_line(r: NextText) -> Line {
-    match r {
-        NextText::InFile(start, stop, to) => spelt(SPELT, STR, to.place, start, stop),
-        NextText::InRoom(n, to) => spelt(SPELT_IN_ROOM, STR, to.place, 0, n),
-        NextText::Refused(f, to) => refused(STR, to.place, f),
-    }
-}
-
-// What a list says, whose numbers are in a room, and a grid, whose row ends are in another.
-pub fn list_line(reader: usize, r: NextList) -> Line {
-    match r {
-        NextList::Count(n, to) => three(LISTED, reader, to.place, n),
-        NextList::Refused(f, to) => refused(reader, to.place, f),
-    }
-}
-
-pub fn grid_line(reader: usize, r: NextGrid) -> Line {
-    match r {
-        NextGrid::Count(rows, n, to) => eight(LISTED, reader, to.place, n, rows, 0, 0, 0, 0),
-        NextGrid::Refused(f, to) => refused(reader, to.place, f),
+// A grid, so many row ends of which are in another room.
+fn put_grid<W: Write, T: Item>(
+    name: &str,
+    to: State,
+    got: Result<Size, Fault>,
+    room: &[T],
+    ends: &[usize],
+    out: &mut W,
+) -> io::Result<()> {
+    match got {
+        Ok(size) => {
+            let items = Joined(&room[..size.numbers.min(room.len())]);
+            let ends = Joined(&ends[..size.rows.min(ends.len())]);
+            writeln!(out, "{name} @{} {items}|{ends}", to.place)
+        }
+        Err(f) => put_read(name, to, Err(f), out),
     }
 }

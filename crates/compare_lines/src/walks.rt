@@ -1,49 +1,71 @@
-// The titles of the walks: of each header row, each simple data row and each part of a complex one.
-use crate::patterns::{
-    EMPTY, PART, PART_REFUSED, WALK_HEAD, WALK_ROW, eight, mark_after, none, three,
-};
-use crate::rows::head_args;
-use lookup::{Entry, Tables};
-use params::State;
-use parts::Next;
-use printing::Line;
+// The walks: of each header row, each simple data row and each part of a complex one, what all readers say at each of its parameters.
+use crate::opened::{Opened, state_of};
+use crate::readers::{put_lists, put_scalars};
+use crate::shown::Mark;
+use input::ValueRooms;
+use statement::Range;
+use std::io;
+use std::io::Write;
 
-// `walk h I`. Behind the row's number the line has, as each title, where the arguments start and end.
-pub fn head(heads: &[u32], t: Tables, i: usize) -> Line {
-    if i >= t.headers {
-        return none();
+pub fn put_walks<W: Write>(c: &Opened<'_>, v: &mut ValueRooms, out: &mut W) -> io::Result<()> {
+    for i in 0..c.t.headers {
+        writeln!(out, "walk h {i}")?;
+        put_walk(c.file, table::read_header(c.heads, i).args, v, out)?;
     }
-    let at = head_args(heads, i);
-    three(WALK_HEAD, i, at.place, at.end)
+    for i in 0..c.t.records {
+        let Some(w) = lookup::entity(c.rows, c.t, i) else {
+            break;
+        };
+        if w.complex == 1 {
+            put_parts(c.file, i, w.args, v, out)?;
+        } else {
+            writeln!(out, "walk r {i}")?;
+            put_walk(c.file, w.args, v, out)?;
+        }
+    }
+    Ok(())
 }
 
-// `walk r I` of a simple row. A complex one has a line of no bytes: its parts are walked.
-pub fn row(rows: &[u32], t: Tables, i: usize) -> Line {
-    match lookup::entity(rows, t, i) {
-        Entry::Nothing => none(),
-        Entry::Row(r) => three(row_title(r.complex), i, r.args.start, r.args.end),
+// All readers at each parameter, up to one that `skip` refuses.
+fn put_walk<W: Write>(file: &[u8], args: Range, v: &mut ValueRooms, out: &mut W) -> io::Result<()> {
+    let mut at = state_of(args);
+    for _ in 0..u64::MAX {
+        put_scalars(file, at, out)?;
+        put_lists(file, at, usize::MAX, v, out)?;
+        match params::skip(file, &mut at) {
+            Ok(()) => writeln!(out, "skip @{}", at.place)?,
+            Err(f) => return writeln!(out, "skip @{} {}", at.place, Mark(f)),
+        }
     }
+    Ok(())
 }
 
-fn row_title(complex: u32) -> usize {
-    if complex == 1 { EMPTY } else { WALK_ROW }
-}
-
-// `part I K KS KE AS AE`, or `part I NO/REASON@PLACE`
-pub fn part(file: &[u8], rest: State, i: usize, k: usize) -> Line {
-    match parts::next_part(file, rest.place, rest.end) {
-        Next::Over => none(),
-        Next::Refused(f) => mark_after(PART_REFUSED, i, f),
-        Next::Is(p) => eight(
-            PART,
-            i,
-            k,
-            p.keyword.start,
-            p.keyword.end,
-            p.args.start,
-            p.args.end,
-            0,
-            0,
-        ),
+// `part I K KS KE AS AE` of each part, and its walk; `part I NO/REASON@PLACE` of a faulty one.
+fn put_parts<W: Write>(
+    file: &[u8],
+    i: usize,
+    args: Range,
+    v: &mut ValueRooms,
+    out: &mut W,
+) -> io::Result<()> {
+    let mut at = args.start;
+    for k in 0..usize::MAX {
+        match parts::next_part(file, at, args.end) {
+            Ok(Some(p)) => {
+                let w = p.keyword;
+                let a = p.args;
+                writeln!(
+                    out,
+                    "part {i} {k} {} {} {} {}",
+                    w.start, w.end, a.start, a.end
+                )?;
+                put_walk(file, a, v, out)?;
+                // behind the part's `)`
+                at = a.end.saturating_add(1);
+            }
+            Ok(None) => return Ok(()),
+            Err(f) => return writeln!(out, "part {i} {}", Mark(f)),
+        }
     }
+    Ok(())
 }
