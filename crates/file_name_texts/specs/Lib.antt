@@ -1,4 +1,3 @@
 pub mod Title
 pub mod Laws
 pub mod Places
-pub mod Only

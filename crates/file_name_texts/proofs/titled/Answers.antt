@@ -1,17 +1,13 @@
-use native.Mathlib.Omega.{arith}
-use mathlib.Core.Path.{refl}
-use borrow.Author.Tests.{eq-eqb, ne_eqb}
-use Rattle.error.specs.Refusal.{told}
+use Rattle.std.proofs.Common.{◌∙◌, ap, sym, Result}
+use Rattle.error.specs.Refusal.{told_result}
+use Rattle.error.specs.declared.Fault.{Fault}
+use Rattle.words.specs.declared.Text.{Text}
+use Rattle.file_name_texts.specs.Title.{as_title}
+use Rattle.file_name_texts.specs.Laws.{fault_short, fault_empty}
 use Rattle.file_name_texts.proofs.titled.Goals as goal
 
-pub returns-then-number-eq16 : goal.returns-then-number-eq16
-returns-then-number-eq16 c = rw (c.in-Refused.is, eq-eqb (told c.in-Refused.f).number 16 (omega (arith, c.number.ensures))) refl
+pub returns-in-TooShort : goal.returns-in-TooShort
+returns-in-TooShort c = fault_short c.in-Err.fault c.in-TooShort.field-0 c.in-TooShort.is ∙ ap (λ (x : Result Text Fault). as_title (told_result x)) (sym c.in-Err.is)
 
-pub returns-in-InFile : goal.returns-in-InFile
-returns-in-InFile c = rw c.in-InFile.is refl
-
-pub returns-in-InRoom : goal.returns-in-InRoom
-returns-in-InRoom c = rw c.in-InRoom.is refl
-
-pub returns-else-number-eq16 : goal.returns-else-number-eq16
-returns-else-number-eq16 c = rw (c.in-Refused.is, ne_eqb (told c.in-Refused.f).number 16 (omega (arith, c.number.ensures))) refl
+pub returns-in_default : goal.returns-in_default
+returns-in_default c = fault_empty c.in-Err.fault c.in_default.not-TooShort ∙ ap (λ (x : Result Text Fault). as_title (told_result x)) (sym c.in-Err.is)
