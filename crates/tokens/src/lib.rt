@@ -20,10 +20,7 @@ pub fn find_byte(s: &[u8], start: usize, b: u8) -> usize
 pub fn is_at(s: &[u8], i: usize, b: u8) -> bool
     ensures { result ≡ heads_with b (drop i s.now) }
 {
-    if i < s.len() {
-        return s[i] == b;
-    }
-    false
+    i < s.len() && s[i] == b
 }
 
 // Where the string ends whose first quote stands before `start`: at the first quote that is not one of a pair.
@@ -35,11 +32,12 @@ pub fn string_end(s: &[u8], start: usize) -> Option<usize>
 }
 
 // Where the comment ends whose `/*` stands before `start`: after the first `*/`.
+// Kept: the loop leaps from star to star, which no `for` counts.
 pub fn comment_end(s: &[u8], start: usize) -> Option<usize>
     ensures result_value { told_token_end s.now result ≡ comment_rest (drop start s.now) }
     ensures token_end_in { TokenEndIn start (length s.now) result }
 {
-    let mut i = common::within(start, s.len());
+    let mut i = start.min(s.len());
     loop {
         let q = find_byte(s, i, b'*');
         if q == s.len() {

@@ -9,9 +9,9 @@ use Rattle.tokens.proofs.comment_end.Goals as goal
 
 pub loop-start-init : goal.loop-start-init
 loop-start-init c = let s = c.args.s.now in (
-  omega (arith, c.within-i.ensures),
-  omega (arith, c.within-i.ensures),
-  ap comment_rest (ap (λ (k : ℕ). drop k s) c.within-i.ensures ∙ drop_within s c.args.start),
+  omega (arith, c.min-i.ensures),
+  omega (arith, c.min-i.ensures),
+  ap comment_rest (ap (λ (k : ℕ). drop k s) c.min-i.ensures ∙ drop_within s c.args.start),
 )
 
 pub returns-then-q-s : goal.returns-then-q-s

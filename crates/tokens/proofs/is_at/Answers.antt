@@ -5,5 +5,5 @@ use Rattle.tokens.proofs.is_at.Goals as goal
 pub returns-then-i-s : goal.returns-then-i-s
 returns-then-i-s c = heads_at c.args.b c.args.s.now c.args.i (omega arith)
 
-pub returns : goal.returns
-returns c = heads_past c.args.b c.args.s.now c.args.i (omega arith)
+pub returns-else-i-s : goal.returns-else-i-s
+returns-else-i-s c = heads_past c.args.b c.args.s.now c.args.i (omega arith)
