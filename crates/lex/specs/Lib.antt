@@ -3,6 +3,7 @@ pub mod Place
 pub mod Lexer
 pub mod ByteSearch
 pub mod Answer
+pub mod Blocks
 pub mod Search
 pub mod Seek
 pub mod Grammar

@@ -21,7 +21,6 @@ use Rattle.lex.specs.Local.{seek}
 use Rattle.lex.specs.Right.Steps.{plainly, unstarred, outside_forgotten, unslashed, text_shut, text_open, seek_deaf}
 use Rattle.lex.specs.Right.Tokens.{open_text}
 use Rattle.error.specs.declared.Fault.{Fault}
-use Rattle.lex.specs.declared.Stand.{Stand}
 use Rattle.lex.specs.declared.Mode.{Mode}
 use Rattle.lex.specs.declared.Mode.TheVariants.{Plain, Slash, Text, Remark, Starred}
 
@@ -56,13 +55,6 @@ Quiet s i j = (n : ℕ) (w : List ℕ) → plainly semicolon n w 0 (drop i s) �
 -- a search for a `)` with d open parentheses goes on from j with e, where no more than d are closed between
 abbrev pub BlockCounted : List ℕ → ℕ → ℕ → ℕ → ℕ → Type 0
 BlockCounted s i j up down = (n : ℕ) (w : List ℕ) (d e : ℕ) → down ≤ d → e + down ≡ d + up → plainly paren n w d (drop i s) ≡ plainly paren n w e (drop j s)
-
--- a search for a `)` with d open parentheses goes on from t as from i
-pub record Stood (s : List ℕ) (i d : ℕ) (t : Stand) : Type 0 where
-  pub on : i ≤ t.at
-  pub inside : t.at ≤ length s
-  pub low : t.depth ≤ t.at
-  pub same : (n : ℕ) (w : List ℕ) → plainly paren n w d (drop i s) ≡ plainly paren n w t.depth (drop t.at s)
 
 -- what is left for a search at i among n bytes that looks at them one by one up to `near`: less after each byte, and after blocks were tried
 abbrev pub left_to_search : ℕ → ℕ → ℕ → ℕ

@@ -5,12 +5,12 @@
 // No public function has a `requires`: a start past the file's end counts as the end.
 #![tactic(auto)]
 
-ghost use Rattle.std.specs.Prelude.{◌≡◌, ◌+◌, ◌≤◌, ◌<◌, ◌^◌, min, true, false, ◌||◌, length, drop};
+ghost use Rattle.std.specs.Prelude.{◌≡◌, ℕ, ◌+◌, ◌≤◌, ◌<◌, ◌^◌, min, true, false, ◌||◌, length, drop, IfSome};
 ghost use Rattle.error.specs.Refusal.{told_result};
 ghost use Rattle.lex.specs.Byte.{white};
-ghost use Rattle.lex.specs.ByteSearch.{NoneBetween};
+ghost use Rattle.lex.specs.Blocks.{BlocksPassed};
 ghost use Rattle.lex.specs.Answer.{Lacks, Stopped, placed, QuoteIs, TextEnds};
-ghost use Rattle.lex.specs.PassedAtOnce.{IsAt, LeavesOrRefused, OutsideAgain, Quiet, BlockCounted, Stood};
+ghost use Rattle.lex.specs.PassedAtOnce.{IsAt, LeavesOrRefused, OutsideAgain, Quiet, BlockCounted};
 ghost use Rattle.lex.specs.Search.{record_end, closing, trivia, paren, look_of};
 
 use error::Fault;
@@ -47,19 +47,28 @@ fn block_has(s: &[u8], at: usize, b: u8) -> bool
     hit
 }
 
-// Past all blocks of 64 bytes that lack b, from `from` on.
-fn pass_blocks(s: &[u8], from: usize, b: u8) -> usize
-    requires { from ≤ length s.now }
-    ensures { NoneBetween b s.now from result }
+// Past the blocks of 64 bytes, from `from` on, that the step lets pass, with what it makes of a state; it is told where a block begins.
+fn pass_blocks<T: Copy, F: Fn(usize, T) -> Option<T>>(
+    s: &[u8],
+    from: usize,
+    first: T,
+    step: F,
+) -> (usize, T)
+    requires inside { from ≤ length s.now }
+    requires ready { (i : ℕ) (t : T) → i + 64 ≤ length s.now → F.pre step i t }
+    ensures bounds { (from ≤ result.0) × (result.0 ≤ length s.now) }
+    ensures passed { BlocksPassed (λ i t u. (i + 64 ≤ length s.now) × F.post step i t (Some u)) from first result.0 result.1 }
 {
     let mut i = from;
+    let mut state = first;
     while s.len() - i >= 64 {
-        if block_has(s, i, b) {
-            return i;
-        }
+        let Some(next) = step(i, state) else {
+            return (i, state);
+        };
+        state = next;
         i += 64;
     }
-    i
+    (i, state)
 }
 
 // Past the bytes that are not b, from `from` on and before `end`.
@@ -88,7 +97,7 @@ pub fn find(s: &[u8], start: usize, b: u8) -> usize
     if i < near {
         return i;
     }
-    let far = pass_blocks(s, i, b);
+    let (far, _) = pass_blocks(s, i, (), |at, _| (!block_has(s, at, b)).then_some(()));
     pass_bytes(s, far, s.len(), b)
 }
 
@@ -221,22 +230,6 @@ fn block_ends(s: &[u8], at: usize) -> bool
     quote | slash | end
 }
 
-// Past all blocks of 64 bytes, from `from` on, in which a search for a `;` finds nothing to look at.
-fn pass_quiet(s: &[u8], from: usize) -> usize
-    requires { from ≤ length s.now }
-    ensures quiet { Quiet s.now from result }
-    ensures lower_bound { (from ≤ result) × (result ≤ length s.now) }
-{
-    let mut i = from;
-    while s.len() - i >= 64 {
-        if block_ends(s, i) {
-            return i;
-        }
-        i += 64;
-    }
-    i
-}
-
 // Finds the `;` that ends the record that begins at `start`. The bytes are looked at one by one up to `near`, then by blocks while that passes
 // any: most records are short.
 // Kept: the loop leaps over strings, comments and blocks, which no `for` counts.
@@ -248,7 +241,7 @@ pub fn find_record_end(s: &[u8], start: usize) -> Result<usize, Fault>
     let mut near = from + 64;
     while i < s.len() {
         if near <= i {
-            i = pass_quiet(s, i);
+            i = pass_blocks(s, i, (), |at, _| (!block_ends(s, at)).then_some(())).0;
             near = i + 64;
         } else {
             if s[i] == b';' {
@@ -286,11 +279,19 @@ struct Tally {
     down: u8,
 }
 
-// Where a search for a `)` stands outside strings and comments, and how many parentheses are open there.
-#[derive(Clone, Copy)]
-struct Stand {
-    at: usize,
-    depth: usize,
+impl Tally {
+    // How many parentheses are open after the bytes, where so many are before them; none where a byte is to be looked at by itself, or one of the
+    // parentheses may close the one sought.
+    fn after(self, depth: usize) -> Option<usize>
+        ensures { IfSome result (λ e. ((self.quote || self.slash) ≡ false) × (self.down ≤ depth) × (e + self.down ≡ depth + self.up)) }
+    {
+        if self.quote | self.slash {
+            return None;
+        }
+        depth
+            .checked_sub(usize::from(self.down))?
+            .checked_add(usize::from(self.up))
+    }
 }
 
 // What the 64 bytes from `at` on do to a search for a `)`. The counts are bytes, so that the compiler counts in many of them at once.
@@ -318,26 +319,6 @@ fn block_tally(s: &[u8], at: usize) -> Tally
     }
 }
 
-// Past all blocks of 64 bytes, from `from` on with so many open parentheses, that have no string, no comment and no more `)` than are open: none
-// of these closes the one sought.
-fn pass_calm(s: &[u8], from: usize, opened: usize) -> Stand
-    requires { (opened ≤ from) × (from ≤ length s.now) }
-    ensures { Stood s.now from opened result }
-{
-    let mut i = from;
-    let mut depth = opened;
-    while s.len() - i >= 64 {
-        let t = block_tally(s, i);
-        let down = usize::from(t.down);
-        if t.quote | t.slash | (depth < down) {
-            return Stand { at: i, depth };
-        }
-        depth = depth + usize::from(t.up) - down;
-        i += 64;
-    }
-    Stand { at: i, depth }
-}
-
 // Finds the `)` that closes the `(` at `opening`; what byte stands there is not looked at. By bytes and blocks as the search for a `;`.
 // Kept: the loop leaps as that search does.
 pub fn matching_paren(s: &[u8], opening: usize) -> Result<usize, Fault>
@@ -349,9 +330,7 @@ pub fn matching_paren(s: &[u8], opening: usize) -> Result<usize, Fault>
     let mut near = i + 64;
     while i < s.len() {
         if near <= i {
-            let t = pass_calm(s, i, depth);
-            i = t.at;
-            depth = t.depth;
+            (i, depth) = pass_blocks(s, i, depth, |at, d| block_tally(s, at).after(d));
             near = i + 64;
         } else {
             let Some(d) = depth_after(depth, s[i]) else {

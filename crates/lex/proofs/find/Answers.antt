@@ -1,5 +1,7 @@
-use Rattle.lex.specs.ByteSearch.{stopped_near, stopped_far}
-use Rattle.lex.specs.Answer.{Stopped}
+use Rattle.lex.specs.Blocks.{blocks_keep}
+use Rattle.lex.specs.ByteSearch.{NoneBetween, lacks_none, lacks_on, stopped_near, stopped_far}
+use Rattle.lex.specs.Answer.{Lacks, Stopped}
+use Rattle.std.proofs.Common.{rules}
 use Prim.Native.Nat.{ℕ}
 use lib.ListN.{length}
 use mathlib.Core.Path.{subst}
@@ -17,7 +19,8 @@ returns-then-i-near c = let a = c.args in
 pub returns : goal.returns
 returns c = let a = c.args in
     let n = length a.s.now in
-    let w = c.min-from.ensures in
     let near = c.pass_bytes-i.ensures in
-    subst (λ (k : ℕ). Stopped a.b a.s.now k n c.pass_bytes.result) w
-    (stopped_far _ _ _ _ _ n _ near.on near.lacks c.pass_blocks-far.ensures c.pass_bytes.ensures)
+    let far : Lacks a.b a.s.now c.pass_bytes-i.result c.pass_blocks-far.result.0 = blocks_keep (λ i s r t. Lacks a.b a.s.now i r) (λ i s. lacks_none _ _ _ _ (omega arith)) (λ i r s t u h p. lacks_on _ _ _ r _ h (search rules)) c.pass_blocks-far.ensures.passed in
+    let between : NoneBetween a.b a.s.now c.pass_bytes-i.result c.pass_blocks-far.result.0 = record { on = c.pass_blocks-far.ensures.bounds.0; inside = c.pass_blocks-far.ensures.bounds.1; lacks = far } in
+    subst (λ (k : ℕ). Stopped a.b a.s.now k n c.pass_bytes.result) c.min-from.ensures
+    (stopped_far _ _ _ _ _ n _ near.on near.lacks between c.pass_bytes.ensures)

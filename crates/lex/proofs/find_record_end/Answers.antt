@@ -1,4 +1,6 @@
-use Rattle.lex.specs.PassedAtOnce.{blocks_less, bytes_less}
+use Rattle.lex.specs.Blocks.{blocks_keep}
+use Rattle.lex.specs.PassedAtOnce.{Quiet, blocks_less, bytes_less}
+use Rattle.std.proofs.Common.{rules, ◌+◌}
 use Rattle.lex.specs.Seek.{drop_within, seek_halts_at}
 use Rattle.lex.specs.Search.{seen, seek_turn, semicolon, missed, record_end}
 use Rattle.lex.specs.Answer.{placed}
@@ -23,12 +25,13 @@ loop-i-init c = let s = c.args.s.now in
     (omega (arith, c.min-from.ensures), ap record_end (ap (λ (k : ℕ). drop k s) c.min-from.ensures ∙ drop_within s c.args.start))
 
 pub loop-i-smaller-then-near-i : goal.loop-i-smaller-then-near-i
-loop-i-smaller-then-near-i c = let l = c.loop-i in blocks_less _ l.i l.near c.pass_quiet-i.result (omega arith) c.pass_quiet-i.ensures.lower_bound.0
+loop-i-smaller-then-near-i c = let l = c.loop-i in blocks_less _ l.i l.near c.pass_blocks-i.result.0 (omega arith) c.pass_blocks-i.ensures.bounds.0
 
 pub loop-i-preserved-then-near-i : goal.loop-i-preserved-then-near-i
 loop-i-preserved-then-near-i c = let l = c.loop-i in
     let s = c.args.s.now in
-    (omega arith, sym (c.pass_quiet-i.ensures.quiet 5 (drop c.min-from.result s)) ∙ l.invariant.1)
+    let q : Quiet s l.i c.pass_blocks-i.result.0 = blocks_keep (λ i d r e. Quiet s i r) (λ i d n w. refl) (λ i r d t u h p. let k : Quiet s r (r + 64) = search rules in λ n w. h n w ∙ k n w) c.pass_blocks-i.ensures.passed in
+    (omega (arith, c.pass_blocks-i.ensures.bounds), sym (q 5 (drop c.min-from.result s)) ∙ l.invariant.1)
 
 pub returns-then-s-i-eq59 : goal.returns-then-s-i-eq59
 returns-then-s-i-eq59 c = let l = c.loop-i in

@@ -1,4 +1,8 @@
-use Rattle.lex.specs.PassedAtOnce.{blocks_less, bytes_less}
+use Rattle.lex.specs.Blocks.{blocks_keep}
+use Rattle.lex.specs.PassedAtOnce.{BlockCounted, blocks_less, bytes_less}
+use Rattle.lex.specs.Right.Steps.{plainly}
+use Rattle.lex.specs.declared.Tally.{Tally}
+use Rattle.std.proofs.Common.{List, Bool, false, ◌||◌, ◌≤◌, rules}
 use Rattle.lex.specs.Seek.{drop_within, seek_halts_at, paren_up}
 use Rattle.lex.specs.Search.{seen, seek_turn, paren, missed, closing, look_of}
 use Rattle.lex.specs.Answer.{placed}
@@ -13,6 +17,15 @@ use Prim.Native.Nat.{ℕ, ◌+◌}
 use native.Mathlib.Omega.{arith}
 use Rattle.std.proofs.lemmas.Result.{err_from_is_err_and}
 use Rattle.lex.proofs.matching_paren.Goals as goal
+
+-- a search for a `)` with d open parentheses goes on from r with e, and no more are open than bytes were passed
+abbrev Calm : List ℕ → ℕ → ℕ → ℕ → ℕ → Type 0
+Calm s i d r e = (d ≤ i → e ≤ r) × ((n : ℕ) (w : List ℕ) → plainly paren n w d (drop i s) ≡ plainly paren n w e (drop r s))
+
+-- a block whose parentheses are counted is passed
+calm_block : (s : List ℕ) (r d e : ℕ) (t : Tally) → (t.up ≤ 64) × (t.down ≤ 64) → ((t.quote || t.slash) ≡ false → BlockCounted s r (r + 64) t.up t.down)
+    → ((t.quote || t.slash) ≡ false) × (t.down ≤ d) × (e + t.down ≡ d + t.up) → Calm s r d (r + 64) e
+calm_block s r d e t b k (q, l, m) = (λ h. omega arith, λ n w. k q n w d e l m)
 
 pub overflow_add-from : goal.overflow_add-from
 overflow_add-from c = omega (arith, c.min-from.ensures)
@@ -31,16 +44,17 @@ loop-i-init c = let s = c.args.s.now in
     ((omega (arith, c.min-i.ensures), omega arith), rw f (ap closing e))
 
 pub overflow_add-near-then-near-i : goal.overflow_add-near-then-near-i
-overflow_add-near-then-near-i c = let t = c.pass_calm-t.ensures in omega (arith, t.inside)
+overflow_add-near-then-near-i c = omega (arith, c.pass_blocks.ensures.bounds)
 
 pub loop-i-smaller-then-near-i : goal.loop-i-smaller-then-near-i
-loop-i-smaller-then-near-i c = let l = c.loop-i in blocks_less _ l.i l.near c.pass_calm-t.result.at (omega arith) c.pass_calm-t.ensures.on
+loop-i-smaller-then-near-i c = let l = c.loop-i in blocks_less _ l.i l.near c.pass_blocks.result.0 (omega arith) c.pass_blocks.ensures.bounds.0
 
 pub loop-i-preserved-then-near-i : goal.loop-i-preserved-then-near-i
 loop-i-preserved-then-near-i c = let l = c.loop-i in
     let s = c.args.s.now in
-    let t = c.pass_calm-t.ensures in
-    ((omega (arith, t.inside), omega (arith, t.low)), sym (t.same 6 (drop c.min-from.result s)) ∙ l.invariant.1)
+    let q : Calm s l.i l.depth c.pass_blocks.result.0 c.pass_blocks.result.1 =
+    blocks_keep (Calm s) (λ i d. (λ h. h, λ n w. refl)) (λ i r d t u h p. let k : Calm s r t (r + 64) u = search (rules, calm_block) in (λ m. k.0 (h.0 m), λ n w. h.1 n w ∙ k.1 n w)) c.pass_blocks.ensures.passed in
+    ((c.pass_blocks.ensures.bounds.1, q.0 (omega arith)), sym (q.1 6 (drop c.min-from.result s)) ∙ l.invariant.1)
 
 pub returns-in_default : goal.returns-in_default
 returns-in_default c = let l = c.loop-i in

@@ -1,18 +1,15 @@
-use Rattle.lex.specs.ByteSearch.{lacks_none, lacks_on}
-use native.Mathlib.Omega.{arith}
+use Rattle.lex.specs.Blocks.{BlocksPassed}
+use Rattle.std.proofs.Common.{arith}
 use Rattle.lex.proofs.pass_blocks.Goals as goal
 
 pub loop-i-init : goal.loop-i-init
-loop-i-init c = (omega arith, omega arith, lacks_none _ _ _ _ (omega arith))
+loop-i-init g c = (omega arith, omega arith, BlocksPassed.none)
 
-pub returns-then-block_has : goal.returns-then-block_has
-returns-then-block_has c = let l = c.loop-i in
-    record { on = l.invariant.0; inside = l.invariant.1; lacks = l.invariant.2 }
+pub returns-in_default-clause-passed : goal.returns-in_default-clause-passed
+returns-in_default-clause-passed g c = c.loop-i.invariant.2
 
 pub loop-i-preserved : goal.loop-i-preserved
-loop-i-preserved c = let l = c.loop-i in
-    (omega (arith, l.invariant.0), omega arith, lacks_on _ _ _ l.i _ l.invariant.2 (c.block_has.ensures c.if-block_has.false))
+loop-i-preserved g c = (omega arith, omega arith, BlocksPassed.more c.loop-i.invariant.2 (omega arith, c.in-Some.ensures))
 
-pub returns : goal.returns
-returns c = let l = c.loop-i in
-    record { on = l.invariant.0; inside = l.invariant.1; lacks = l.invariant.2 }
+pub returns-clause-passed : goal.returns-clause-passed
+returns-clause-passed g c = c.loop-i.invariant.2
