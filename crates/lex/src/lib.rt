@@ -59,16 +59,16 @@ fn pass_blocks<T: Copy, F: Fn(usize, T) -> Option<T>>(
     ensures bounds { (from ≤ result.0) × (result.0 ≤ length s.now) }
     ensures passed { BlocksPassed (λ i t u. (i + 64 ≤ length s.now) × F.post step i t (Some u)) from first result.0 result.1 }
 {
-    let mut i = from;
+    let blocks = (s.len() - from) / 64;
     let mut state = first;
-    while s.len() - i >= 64 {
-        let Some(next) = step(i, state) else {
-            return (i, state);
+    for k in 0..blocks {
+        let at = from + 64 * k;
+        let Some(next) = step(at, state) else {
+            return (at, state);
         };
         state = next;
-        i += 64;
     }
-    (i, state)
+    (from + 64 * blocks, state)
 }
 
 // Past the bytes that are not b, from `from` on and before `end`.

@@ -1,15 +1,19 @@
 use Rattle.lex.specs.Blocks.{BlocksPassed}
-use Rattle.std.proofs.Common.{arith}
+use Rattle.std.proofs.Common.{◌≡◌, ◌+◌, ◌*◌, ◌-◌, ◌/◌, length, arith}
 use Rattle.lex.proofs.pass_blocks.Goals as goal
 
-pub loop-i-init : goal.loop-i-init
-loop-i-init g c = (omega arith, omega arith, BlocksPassed.none)
+pub loop-k-init : goal.loop-k-init
+loop-k-init g c = let e : c.args.from + 64 * 0 ≡ c.args.from = omega arith in rw e BlocksPassed.none
 
 pub returns-in_default-clause-passed : goal.returns-in_default-clause-passed
-returns-in_default-clause-passed g c = c.loop-i.invariant.2
+returns-in_default-clause-passed g c = c.loop-k.invariant
 
-pub loop-i-preserved : goal.loop-i-preserved
-loop-i-preserved g c = (omega arith, omega arith, BlocksPassed.more c.loop-i.invariant.2 (omega arith, c.in-Some.ensures))
+pub loop-k-preserved : goal.loop-k-preserved
+loop-k-preserved g c =
+    let e : c.args.from + 64 * (c.loop-k.k + 1) ≡ c.args.from + 64 * c.loop-k.k + 64 = omega arith in
+    rw e (BlocksPassed.more c.loop-k.invariant (omega arith, c.in-Some.ensures))
 
 pub returns-clause-passed : goal.returns-clause-passed
-returns-clause-passed g c = c.loop-i.invariant.2
+returns-clause-passed g c =
+    let e : c.loop-k.k ≡ (length c.args.s.now - c.args.from) / 64 = omega arith in
+    rw (← e) c.loop-k.invariant
