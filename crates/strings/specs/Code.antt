@@ -1,6 +1,5 @@
 -- What the numbers that the code hands on stand for, and the answers of the public functions. Assumes nothing.
-use Rattle.std.specs.Prelude.{ℕ, ◌≤◌, ◌<◌, ◌≡◌, true, false, List, [], ◌∷◌, ◌++◌, eqb, length, take, drop, Option, Some, None}
-use Rattle.common.specs.Pick.{pick}
+use Rattle.std.specs.Prelude.{ℕ, ◌≤◌, ◌<◌, ◌≡◌, true, false, List, [], ◌∷◌, ◌++◌, length, take, drop, Option, Some, None}
 use Rattle.utf8.specs.Encoding.{encode_all}
 use Rattle.strings.specs.declared.Char.{Char}
 use Rattle.strings.specs.Text.{Group, char, wrong, Piece, plain, long_of, page_after, text_on}

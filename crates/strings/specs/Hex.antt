@@ -1,11 +1,11 @@
 -- Hex digits and groups, as the code computes them: one law for each way out. Assumes nothing.
-use Rattle.std.specs.Prelude.{ℕ, zero, suc, ◌+◌, ◌*◌, ◌/◌, ◌%◌, ◌≤◌, ◌<◌, ◌≡◌, refl, Bool, true, false, ◌&&◌, ◌||◌, List, [], ◌∷◌, leb, ltb, length, get_or, Option, Some, None}
-use Rattle.std.proofs.Common.{sym, ◌∙◌, ap, arith, ltb-true, ltb-false, leb-true, leb-false, le-leb}
+use Rattle.std.specs.Prelude.{ℕ, zero, suc, ◌+◌, ◌*◌, ◌/◌, ◌%◌, ◌≤◌, ◌<◌, ◌≡◌, refl, Bool, true, false, ◌&&◌, List, [], ◌∷◌, leb, ltb, length, get_or, Some, None}
+use Rattle.std.proofs.Common.{sym, ◌∙◌, ap, arith, ltb-true, ltb-false, leb-true, le-leb}
 use Rattle.std.proofs.lemmas.Bool.{lt-leb}
 use Rattle.std.proofs.Math.ListN.{get_or-eq_default}
 use Rattle.common.specs.Compare.{clash}
 use Rattle.common.specs.Pick.{pick}
-use Rattle.common.specs.Tests.{both, neither}
+use Rattle.common.specs.Tests.{both}
 use Rattle.utf8.specs.Utf8.{byte_at}
 use Rattle.strings.specs.Text.{hex_digit, hex_value, two_at, two_of, four_at, four_of, char, wrong, character_of_code, high, surrogates_joined, group_two, group_four}
 

@@ -1,6 +1,6 @@
 -- What each test of the code that reads a piece shows, one law for each way out (`short`, `long`, `directive`, `ordinary`, `step`); and what the loop
 -- over pieces keeps (`turn`, `turns`, `run`). Assumes nothing.
-use Rattle.std.specs.Prelude.{ℕ, ◌+◌, ◌≤◌, ◌<◌, ◌≡◌, Bool, ◌&&◌, List, [], ◌∷◌, ◌++◌, eqb, length, take, drop, Option, Some, None}
+use Rattle.std.specs.Prelude.{ℕ, ◌+◌, ◌≤◌, ◌<◌, ◌≡◌, Bool, ◌&&◌, List, [], ◌∷◌, ◌++◌, eqb, length, take, drop, Some, None}
 use Rattle.std.proofs.Math.Path.{refl, ap}
 use Rattle.std.proofs.Common.{sym, ◌∙◌, append_assoc, append-nil, arith, length-drop, drop-drop}
 use Rattle.std.proofs.Math.Bool.{true, false}

@@ -2,7 +2,6 @@ use Rattle.common.specs.Noting.{noting_none, noting_next, noting_all}
 use Prim.Native.Nat.{◌+◌}
 use mathlib.Core.Path.{sym, ◌∙◌}
 use native.Mathlib.Omega.{arith}
-use lib.ListN.{get_or}
 use Rattle.common.specs.Tests.{neither}
 use Rattle.strings.specs.PlainRuns.{plain_more}
 use Rattle.strings.proofs.block_differs.Goals as goal

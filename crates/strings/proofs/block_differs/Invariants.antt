@@ -1,5 +1,4 @@
 use Rattle.common.specs.Noting.{Noting}
-use Prim.Native.Nat.{◌-◌}
 use mathlib.Core.Path.{◌≡◌}
 use mathlib.Core.Bool.{true}
 use lib.ListN.{take}

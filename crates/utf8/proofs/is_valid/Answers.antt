@@ -1,6 +1,5 @@
 use native.Mathlib.Omega.{arith}
-use mathlib.Core.Path.{refl, sym, ◌∙◌, ap}
-use Rattle.utf8.specs.Answer.{told_first}
+use mathlib.Core.Path.{refl, sym, ◌∙◌}
 use Rattle.utf8.specs.Laws.{valid_one, valid_ends, valid_here, valid_fails}
 use Rattle.utf8.proofs.is_valid.Goals as goal
 

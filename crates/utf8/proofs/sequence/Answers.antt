@@ -1,4 +1,4 @@
-use mathlib.Core.Path.{ap, ◌∙◌}
+use mathlib.Core.Path.{◌∙◌}
 use Rattle.common.specs.Tests.{bounds}
 use Rattle.utf8.specs.Laws.{lead_one, lead_two_lem, lead_three_lem, lead_four_lem, lead_none}
 use Rattle.utf8.proofs.sequence.Goals as goal
