@@ -1,7 +1,6 @@
 use Rattle.common.specs.Noting.{Noting}
 use Rattle.lex.specs.PassedAtOnce.{Quiet}
 use mathlib.Core.Bool.{◌||◌}
-use Prim.Native.Nat.{◌-◌}
 use Rattle.lex.proofs.block_ends.Given as goal
 
 abbrev pub invariant-loop-k : goal.invariant-loop-k

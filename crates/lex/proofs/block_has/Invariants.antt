@@ -1,6 +1,5 @@
 use Rattle.common.specs.Noting.{Noting}
 use Rattle.lex.specs.Answer.{Lacks}
-use Prim.Native.Nat.{◌-◌}
 use Rattle.lex.proofs.block_has.Given as goal
 
 abbrev pub invariant-loop-k : goal.invariant-loop-k

@@ -1,7 +1,7 @@
 use Rattle.lex.specs.PassedAtOnce.{BlockCounted}
 use mathlib.Core.Path.{◌≡◌}
 use mathlib.Core.Bool.{false, ◌||◌}
-use Prim.Native.Nat.{◌+◌, ◌-◌, ◌≤◌}
+use Prim.Native.Nat.{◌+◌, ◌≤◌}
 use Rattle.lex.proofs.block_tally.Given as goal
 
 abbrev pub invariant-loop-k : goal.invariant-loop-k

@@ -2,7 +2,7 @@ use Rattle.lex.specs.Blocks.{blocks_keep}
 use Rattle.lex.specs.PassedAtOnce.{BlockCounted, blocks_less, bytes_less}
 use Rattle.lex.specs.Right.Steps.{plainly}
 use Rattle.lex.specs.declared.Tally.{Tally}
-use Rattle.std.proofs.Common.{List, Bool, false, ◌||◌, ◌≤◌, rules}
+use Rattle.std.proofs.Common.{List, false, ◌||◌, ◌≤◌, rules}
 use Rattle.lex.specs.Seek.{drop_within, seek_halts_at, paren_up}
 use Rattle.lex.specs.Search.{seen, seek_turn, paren, missed, closing, look_of}
 use Rattle.lex.specs.Answer.{placed}

@@ -1,4 +1,4 @@
-use Rattle.std.proofs.Common.{ℕ, ◌+◌, ◌*◌, ◌≤◌, length, Some}
+use Rattle.std.proofs.Common.{◌+◌, ◌*◌, ◌≤◌, length, Some}
 use Rattle.lex.specs.Blocks.{BlocksPassed}
 use Rattle.lex.proofs.pass_blocks.Given as goal
 
