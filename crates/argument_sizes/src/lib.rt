@@ -8,10 +8,8 @@ ghost use Rattle.std.specs.Prelude.{◌≡◌, max};
 ghost use Rattle.argument_sizes.specs.Lengths.{grid_len, sizes_of, args_of, part_sizes_of, record_sizes_of};
 ghost use Rattle.argument_sizes.specs.Rules.{text_len, items_len, greater_sizes};
 
-use grids::Tally;
-use lists::{Counted, Kind};
-use params::{NextParam, State};
-use parts::Next;
+use lists::Kind;
+use params::State;
 
 // The bytes of a text, the numbers of a list or a grid, and the rows of a grid.
 #[derive(Clone, Copy)]
@@ -21,14 +19,21 @@ pub struct Sizes {
     pub rows: usize,
 }
 
+// Where nothing is needed.
+const NOTHING: Sizes = Sizes {
+    text: 0,
+    items: 0,
+    rows: 0,
+};
+
 // The greater of each.
 pub fn larger_each(a: Sizes, b: Sizes) -> Sizes
     ensures { result ≡ greater_sizes a b }
 {
     Sizes {
-        text: common::greatest(a.text, b.text),
-        items: common::greatest(a.items, b.items),
-        rows: common::greatest(a.rows, b.rows),
+        text: a.text.max(b.text),
+        items: a.items.max(b.items),
+        rows: a.rows.max(b.rows),
     }
 }
 
@@ -42,8 +47,7 @@ fn string_len(t: &[u8]) -> usize
     if t[0] != b'\'' {
         return 0;
     }
-    let z = t.len() - 1;
-    strings::text_length(&t[1..z])
+    strings::text_length(&t[1..t.len() - 1])
 }
 
 // How many items a list has; 0 for what is none.
@@ -51,9 +55,8 @@ fn list_len(t: &[u8]) -> usize
     ensures { result ≡ items_len t.now }
 {
     match lists::count_list(t, Kind::Any) {
-        Counted::All(n) => n,
-        Counted::Wrong(_) => 0,
-        Counted::Outside(_) => 0,
+        Ok(n) => n,
+        Err(_) => 0,
     }
 }
 
@@ -62,21 +65,12 @@ fn grid_len(t: &[u8]) -> Sizes
     ensures { result ≡ grid_len t.now }
 {
     match grids::count_grid(t, Kind::Any) {
-        Tally::All(rows, numbers) => Sizes {
+        Ok(grid) => Sizes {
             text: 0,
-            items: numbers,
-            rows,
+            items: grid.numbers,
+            rows: grid.rows,
         },
-        Tally::Wrong(_) => Sizes {
-            text: 0,
-            items: 0,
-            rows: 0,
-        },
-        Tally::Outside(_) => Sizes {
-            text: 0,
-            items: 0,
-            rows: 0,
-        },
+        Err(_) => NOTHING,
     }
 }
 
@@ -84,17 +78,12 @@ fn grid_len(t: &[u8]) -> Sizes
 fn sizes_of(t: &[u8]) -> Sizes
     ensures { result ≡ sizes_of t.now }
 {
-    let text = string_len(t);
-    let items = list_len(t);
-    let grid = grid_len(t);
-    larger_each(
-        Sizes {
-            text,
-            items,
-            rows: 0,
-        },
-        grid,
-    )
+    let alone = Sizes {
+        text: string_len(t),
+        items: list_len(t),
+        rows: 0,
+    };
+    larger_each(alone, grid_len(t))
 }
 
 // What the parameters from a place up to an end need. There are never more than bytes.
@@ -102,21 +91,16 @@ fn args_sizes(s: &[u8], place: usize, end: usize) -> Sizes
     ensures { result ≡ args_of s.now place end }
 {
     let mut at = place;
-    let mut most = Sizes {
-        text: 0,
-        items: 0,
-        rows: 0,
-    };
-    let mut left = s.len();
-    while 0 < left {
-        match params::param_span(s, State { place: at, end }) {
-            NextParam::Refused(_, _) => return most,
-            NextParam::Span(a, z, to) => {
-                most = larger_each(most, sizes_of(&s[a..z]));
-                at = to.place;
+    let mut most = NOTHING;
+    for i in 0..s.len() {
+        let mut reader = State { place: at, end };
+        match params::param_span(s, &mut reader) {
+            Err(_) => return most,
+            Ok(span) => {
+                most = larger_each(most, sizes_of(&s[span.start..span.stop]));
+                at = reader.place;
             }
         }
-        left -= 1;
     }
     most
 }
@@ -126,22 +110,16 @@ fn parts_sizes(s: &[u8], place: usize, end: usize) -> Sizes
     ensures { result ≡ part_sizes_of s.now place end }
 {
     let mut at = place;
-    let mut most = Sizes {
-        text: 0,
-        items: 0,
-        rows: 0,
-    };
-    let mut left = s.len();
-    while 0 < left {
+    let mut most = NOTHING;
+    for i in 0..s.len() {
         match parts::next_part(s, at, end) {
-            Next::Over => return most,
-            Next::Refused(_) => return most,
-            Next::Is(p) => {
-                most = larger_each(most, args_sizes(s, p.args.start, p.args.end));
-                at = p.args.end + 1;
+            Ok(Some(part)) => {
+                most = larger_each(most, args_sizes(s, part.args.start, part.args.end));
+                at = part.args.end + 1;
             }
+            Ok(None) => return most,
+            Err(_) => return most,
         }
-        left -= 1;
     }
     most
 }

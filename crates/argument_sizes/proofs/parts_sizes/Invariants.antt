@@ -1,10 +1,7 @@
-use mathlib.Core.Path.{◌≡◌}
+use Rattle.std.proofs.Common.{◌≡◌, ◌-◌, length}
 use Rattle.argument_sizes.specs.Lengths.{part_sizes_from, part_sizes_of}
 use Rattle.argument_sizes.specs.Rules.{greater_sizes}
 use Rattle.argument_sizes.proofs.parts_sizes.Given as goal
 
-abbrev pub invariant-loop-left : goal.invariant-loop-left
-invariant-loop-left l = greater_sizes l.most (part_sizes_from l.left l.s l.at l.end) ≡ part_sizes_of l.s l.place l.end
-
-abbrev pub decreases-loop-left : goal.decreases-loop-left
-decreases-loop-left l = l.left
+abbrev pub invariant-loop-i : goal.invariant-loop-i
+invariant-loop-i l = greater_sizes l.most (part_sizes_from (length l.s - l.i) l.s l.at l.end) ≡ part_sizes_of l.s l.place l.end

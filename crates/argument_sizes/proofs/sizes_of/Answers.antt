@@ -2,4 +2,4 @@ use Rattle.argument_sizes.specs.Laws.{sizes_joined}
 use Rattle.argument_sizes.proofs.sizes_of.Goals as goal
 
 pub returns : goal.returns
-returns c = rw (c.larger_each.ensures, c.grid_len-grid.ensures, c.list_len-items.ensures, c.string_len-text.ensures) (sizes_joined _)
+returns c = rw (c.larger_each.ensures, c.grid_len.ensures, c.list_len.ensures, c.string_len.ensures) (sizes_joined _)
