@@ -30,10 +30,8 @@ impl<'a> Args<'a> {
     pub fn new(file: &'a [u8], place: usize, end: usize) -> Result<Args<'a>, Fault>
         ensures { OpensReader file.entry place end result }
     {
-        match params::new(file, place, end) {
-            Ok(at) => Ok(Args { file, at }),
-            Err(fault) => Err(fault),
-        }
+        let at = params::new(file, place, end)?;
+        Ok(Args { file, at })
     }
 
     // The reader's place.
