@@ -1,8 +1,11 @@
 // Rounding: a number that was cut below some binary digits, with whether anything was left below the cut.
 #![tactic(auto)]
 
-ghost use Rattle.std.specs.Prelude.{◌≡◌, ◌/◌, ◌%◌, ◌^◌};
-ghost use Rattle.std.specs.Float.Ieee.{nearest};
+ghost use Rattle.std.specs.Prelude.{◌≡◌, ◌≤◌, ◌/◌, ◌%◌, ◌^◌};
+ghost use Rattle.std.specs.Float.{binary64};
+ghost use Rattle.std.specs.Float.Ieee.{nearest, to_bits};
+ghost use Rattle.nearest.specs.Nearest.{signed};
+ghost use Rattle.nearest.specs.PatternUnits.{infinity};
 ghost use Rattle.f64_rounding.specs.Half.{against};
 
 // Rounds w, of which `drop` modulo 64 binary digits are dropped, to the nearest; `more` says that something is left below w. A tie, which
@@ -19,4 +22,15 @@ pub fn rounded_off(w: u64, more: bool, drop: u32) -> u64
         return q + 1;
     }
     q
+}
+
+// The f64 of a pattern, infinity's at most, with its sign, which zero has too.
+pub fn with_sign(neg: bool, pattern: u64) -> f64
+    requires { pattern ≤ infinity }
+    ensures { to_bits binary64 result ≡ signed neg pattern }
+{
+    if neg {
+        return f64::from_bits(0x8000_0000_0000_0000 + pattern);
+    }
+    f64::from_bits(pattern)
 }

@@ -79,22 +79,11 @@ fn lower(a: &mut [u32], k: usize) -> bool
     more | (limbs::divide(a, small_power(k % 13)) != 0)
 }
 
-// The f64 of a pattern, infinity's at most, with its sign.
-fn told(neg: bool, pattern: u64) -> f64
-    requires { pattern ≤ infinity }
-    ensures { to_bits binary64 result ≡ signed neg pattern }
-{
-    if neg {
-        return f64::from_bits(0x8000_0000_0000_0000 + pattern);
-    }
-    f64::from_bits(pattern)
-}
-
 // Infinity, with its sign.
 fn endless(neg: bool) -> f64
     ensures { to_bits binary64 result ≡ signed neg infinity }
 {
-    told(neg, 0x7ff0_0000_0000_0000)
+    f64_rounding::with_sign(neg, 0x7ff0_0000_0000_0000)
 }
 
 // How many of w's binary digits are dropped: so many that 53 are left, and one at least, which is the half of the least f64.
@@ -120,7 +109,7 @@ fn rounded(neg: bool, w: u64, more: bool, y: usize) -> f64
     let drop = spare(w);
     let pattern = (y as u64 + drop as u64 - 1) * 0x10_0000_0000_0000
         + f64_rounding::rounded_off(w, more, drop);
-    told(neg, pattern)
+    f64_rounding::with_sign(neg, pattern)
 }
 
 // The number in a, which was moved up by s binary digits, divided by 10^k; `more` says whether digits below it were left out.
@@ -204,7 +193,7 @@ pub fn lowered(neg: bool, m: u64, k: usize) -> f64
 {
     // m is below 10^20: so this is below 10^-324.
     if (m == 0) | (343 < k) {
-        return told(neg, 0);
+        return f64_rounding::with_sign(neg, 0);
     }
     let s = ahead(k);
     let mut a = [0u32; 32];
@@ -217,7 +206,7 @@ pub fn raised(neg: bool, m: u64, k: usize) -> f64
     ensures { to_bits binary64 result ≡ signed neg (near (m * 10 ^ k) 1) }
 {
     if m == 0 {
-        return told(neg, 0);
+        return f64_rounding::with_sign(neg, 0);
     }
     if 308 < k {
         return endless(neg);
@@ -334,7 +323,7 @@ fn lowered_text(neg: bool, t: &[u8], i: usize, n: usize, k: usize) -> f64
 {
     // Below 10^-324, and from 10^309 on.
     if n + 324 <= k {
-        return told(neg, 0);
+        return f64_rounding::with_sign(neg, 0);
     }
     if k + 309 < n {
         return endless(neg);
@@ -372,13 +361,14 @@ fn raised_text(neg: bool, t: &[u8], i: usize, n: usize, k: usize) -> f64
 }
 
 // The f64 nearest to the number of a text's digits, divided by 10^k where `down`, else times 10^k, with its sign, which zero has too.
+// Kept: `down` is the sign of `k`; the contract's `near_by` (nearest/specs/Power) takes the two so.
 pub fn decimal(neg: bool, t: &[u8], down: bool, k: usize) -> f64
     ensures { to_bits binary64 result ≡ signed neg (near_by down (number_in 0 t.now) k) }
 {
     let i = first_digit(t, 0);
     let n = count_digits(t, i);
     if n == 0 {
-        return told(neg, 0);
+        return f64_rounding::with_sign(neg, 0);
     }
     if down {
         return lowered_text(neg, t, i, n, k);

@@ -46,6 +46,8 @@ const FARTHEST: usize = 27;
 // Exponents from here on count as this one: no text is long enough for its fraction to make up for it.
 const LARGEST: u64 = 0xffff_ffff_ffff_ffff;
 
+// Kept: from here on `t` and `at` go together. A text cut at the place is no plainer: each answer is a place in the whole text, so every caller would add
+// where it had cut.
 fn minus_at(t: &[u8], at: usize) -> bool
     ensures { result ≡ is_minus (drop at t.now) }
 {

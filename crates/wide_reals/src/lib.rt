@@ -157,20 +157,7 @@ fn rounded(neg: bool, w: u64, more: bool, x: u64) -> f64
     let drop = surplus(w);
     let pattern = (x + drop as u64) * 0x10_0000_0000_0000
         + f64_rounding::rounded_off(w, more, drop);
-    if neg {
-        return f64::from_bits(0x8000_0000_0000_0000 + pattern);
-    }
-    f64::from_bits(pattern)
-}
-
-// Zero keeps its sign.
-fn zero(neg: bool) -> f64
-    ensures { to_bits binary64 result ≡ signed neg 0 }
-{
-    if neg {
-        return -0.0;
-    }
-    0.0
+    f64_rounding::with_sign(neg, pattern)
 }
 
 fn raised_within(neg: bool, m: u64, k: usize) -> f64
@@ -307,7 +294,7 @@ pub fn raised(neg: bool, m: u64, k: usize) -> f64
     ensures { to_bits binary64 result ≡ signed neg (near (m * 10 ^ k) 1) }
 {
     if m == 0 {
-        return zero(neg);
+        return f64_rounding::with_sign(neg, 0);
     }
     if 27 < k {
         return long_reals::raised(neg, m, k);
@@ -320,7 +307,7 @@ pub fn lowered(neg: bool, m: u64, k: usize) -> f64
     ensures { to_bits binary64 result ≡ signed neg (near m (10 ^ k)) }
 {
     if m == 0 {
-        return zero(neg);
+        return f64_rounding::with_sign(neg, 0);
     }
     if 64 < k {
         return long_reals::lowered(neg, m, k);

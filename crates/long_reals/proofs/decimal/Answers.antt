@@ -25,7 +25,7 @@ returns-then-n-eq0 c =
     let p = c.args in
     let f = c.first_digit-i.ensures in
     let z = sym f.same ∙ number_none 0 (drop c.first_digit-i.result p.t.now) (sym c.count_digits-n.ensures.0 ∙ c.if-n-eq0.true) in
-    c.told.ensures ∙ ap (signed p.neg) (sym (ap (λ (x : ℕ). near_by p.down x p.k) z ∙ nothing p.down p.k))
+    c.with_sign.ensures ∙ ap (signed p.neg) (sym (ap (λ (x : ℕ). near_by p.down x p.k) z ∙ nothing p.down p.k))
 
 pub returns-then-down : goal.returns-then-down
 returns-then-down c = let p = c.args in c.lowered_text.ensures ∙ ap (λ (b : Bool). signed p.neg (near_by b (number_in 0 p.t.now) p.k)) (sym c.if-down.true)

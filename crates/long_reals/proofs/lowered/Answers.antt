@@ -36,7 +36,7 @@ some m e = pos_of_ne-zero (eqb-false m 0 e)
 pub returns-then-m-k : goal.returns-then-m-k
 returns-then-m-k c =
     let p = c.args in
-    c.told.ensures ∙ ap (signed p.neg) (sym (far p.m p.k c.ranges.m.fits c.if-m-k.true))
+    c.with_sign.ensures ∙ ap (signed p.neg) (sym (far p.m p.k c.ranges.m.fits c.if-m-k.true))
 
 pub ahead-s-requires : goal.ahead-s-requires
 ahead-s-requires c = let p = c.args in ltb-false 343 p.k (neither (eqb p.m 0) (ltb 343 p.k) c.if-m-k.false).1

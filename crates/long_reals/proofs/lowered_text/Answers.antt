@@ -24,7 +24,7 @@ pub returns-then-n-k : goal.returns-then-n-k
 returns-then-n-k c =
     let p = c.args in
     let l : number_in 0 p.t.now < 10 ^ p.n = read_lt p.t.now p.i p.n c.requires.0 c.requires.1 in
-    c.told.ensures ∙ ap (signed p.neg) (sym (far_zero (number_in 0 p.t.now) p.n p.k l c.if-n-k.true))
+    c.with_sign.ensures ∙ ap (signed p.neg) (sym (far_zero (number_in 0 p.t.now) p.n p.k l c.if-n-k.true))
 
 pub overflow_add-k : goal.overflow_add-k
 overflow_add-k c =

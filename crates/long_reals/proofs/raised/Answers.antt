@@ -24,7 +24,7 @@ large m h = omega arith
 pub returns-then-m-eq0 : goal.returns-then-m-eq0
 returns-then-m-eq0 c =
     let p = c.args in
-    c.told.ensures ∙ ap (signed p.neg) (sym (ap (λ (x : ℕ). near x 1) (ap (λ (x : ℕ). x * 10 ^ p.k) c.if-m-eq0.true ∙ zero-mul (10 ^ p.k)) ∙ near_nothing 1 (omega arith)))
+    c.with_sign.ensures ∙ ap (signed p.neg) (sym (ap (λ (x : ℕ). near x 1) (ap (λ (x : ℕ). x * 10 ^ p.k) c.if-m-eq0.true ∙ zero-mul (10 ^ p.k)) ∙ near_nothing 1 (omega arith)))
 
 pub returns-then-k-gt308 : goal.returns-then-k-gt308
 returns-then-k-gt308 c =

@@ -20,12 +20,12 @@ overflow_add-pattern-2 c =
     let h = seen_le a.w a.more a.y c.rounded_off.result c.spare-drop.result c.ranges.w.fits c.requires (omega arith) c.spare-drop.ensures c.rounded_off.ensures in
     record { fits = omega (arith, h) }
 
-pub told-requires : goal.told-requires
-told-requires c =
+pub with_sign-requires : goal.with_sign-requires
+with_sign-requires c =
     let a = c.args in
     seen_le a.w a.more a.y c.rounded_off.result c.spare-drop.result c.ranges.w.fits c.requires (omega arith) c.spare-drop.ensures c.rounded_off.ensures
 
 pub returns : goal.returns
 returns c =
     let a = c.args in
-    λ num den t. c.told.ensures ∙ ap (signed a.neg) (seen_near a.w a.more a.y c.rounded_off.result c.spare-drop.result c.ranges.w.fits c.requires (omega arith) c.spare-drop.ensures c.rounded_off.ensures num den t)
+    λ num den t. c.with_sign.ensures ∙ ap (signed a.neg) (seen_near a.w a.more a.y c.rounded_off.result c.spare-drop.result c.ranges.w.fits c.requires (omega arith) c.spare-drop.ensures c.rounded_off.ensures num den t)

@@ -16,4 +16,4 @@ none m k e = ap (λ (x : ℕ). near x (10 ^ k)) e ∙ near_nothing (10 ^ k) (one
 pub returns-then-m-eq0 : goal.returns-then-m-eq0
 returns-then-m-eq0 c =
     let a = c.args in
-    c.zero.ensures ∙ ap (signed a.neg) (sym (none a.m a.k c.if-m-eq0.true))
+    c.with_sign.ensures ∙ ap (signed a.neg) (sym (none a.m a.k c.if-m-eq0.true))

@@ -4,9 +4,9 @@ use native.Mathlib.Nat.{zero-add}
 use native.Mathlib.Omega.{arith}
 use Rattle.nearest.specs.Nearest.{signed}
 use Rattle.f64_rounding.specs.Bits.{no_nan, no_nan_minus, bits_back}
-use Rattle.long_reals.proofs.told.Goals as goal
+use Rattle.f64_rounding.proofs.with_sign.Goals as goal
 
--- `long_reals::told` meets its contract: a pattern up to infinity's is no NaN's, and the sign is the highest bit. Assumes nothing.
+-- `f64_rounding::with_sign` meets its contract: a pattern up to infinity's is no NaN's, and the sign is the highest bit. Assumes nothing.
 
 pub float_from_bits-result : goal.float_from_bits-result
 float_from_bits-result c = no_nan_minus _ c.requires
