@@ -192,14 +192,14 @@ fn plain_blocks(s: &[u8], from: usize) -> usize
     requires { (from ≤ length s.now) × (plain (take from s.now) ≡ true) }
     ensures { (result ≤ length s.now) × (plain (take result s.now) ≡ true) }
 {
-    let mut i = from;
-    while s.len() - i >= 64 {
-        if block_differs(s, i) {
-            return i;
+    let blocks = (s.len() - from) / 64;
+    for k in 0..blocks {
+        let at = from + 64 * k;
+        if block_differs(s, at) {
+            return at;
         }
-        i += 64;
     }
-    i
+    from + 64 * blocks
 }
 
 // Past the bytes that are the text as they stand, one by one from a place up to another.
@@ -323,6 +323,7 @@ struct Reached {
 
 // The groups of a directive whose four bytes stand at the start, up to their end; a bad one leaves the characters before it and a
 // literal backslash.
+// Kept: the loop goes on by the bytes that a group takes, which no `for` counts.
 fn groups(s: &[u8], width: usize, out: &mut [u8], at: usize) -> Reached
     requires { 4 ≤ length s.now }
     ensures { PiecePut (extended (groups_from width 0 (drop 4 s.now))) at out.old result.at result.used out.new }
@@ -477,6 +478,7 @@ fn turn(s: &[u8], page: usize, out: &mut [u8], at: usize) -> Advance
 }
 
 // Counts the bytes of the text behind so many, and writes them where they fit. It begins on page A.
+// Kept: the loop goes on by the bytes that a piece takes, which no `for` counts.
 fn turns(s: &[u8], out: &mut [u8], from: usize) -> usize
     ensures { Laid from out.old (bytes_of s.now) result out.new }
 {
