@@ -14,16 +14,6 @@ abbrev pub told_first : Option FirstCharacter → LeadCharacter
 told_first (Some r) = valid r.code r.used
 told_first None = invalid
 
--- the number of the character that bytes begin with, 0 where there is none
-abbrev pub code_of_lead : LeadCharacter → ℕ
-code_of_lead (valid c n) = c
-code_of_lead invalid = 0
-
--- in how many bytes the character that bytes begin with stands, 0 where there is none
-abbrev pub used_of_lead : LeadCharacter → ℕ
-used_of_lead (valid c n) = n
-used_of_lead invalid = 0
-
 -- an encoding put into a room at a place, where it fits; the room as it is where it does not
 unfoldable pub put_at : ℕ → List ℕ → List ℕ → List ℕ
 put_at at e o = pick (leb (at + length e) (length o)) (take at o ++ e ++ drop (at + length e) o) o

@@ -9,7 +9,7 @@ use Rattle.std.proofs.lemmas.List.Edits.{sets, sets-eq}
 use Rattle.common.specs.Pick.{pick}
 use Rattle.common.specs.Tests.{both, bounds}
 use Rattle.utf8.specs.Utf8.{scalar, encode, byte_at, tail, least_second, highest, second_in_range, lead_two, lead_three, lead_four, lead_of, valid_from, valid_of}
-use Rattle.utf8.specs.Answer.{LeadCharacter, valid, invalid, code_of_lead, used_of_lead, put_at, put_width}
+use Rattle.utf8.specs.Answer.{LeadCharacter, valid, invalid, put_at, put_width}
 
 -- ---- which numbers are characters
 -- a number below the surrogates is a character
@@ -354,22 +354,6 @@ pub valid_stops : (s : List ℕ) → 0 < length s → lead_of s ≡ invalid → 
 unfolding valid_from
 valid_stops [] h e = absurd (omega arith)
 valid_stops (b ∷ r) h e = rw e
-
--- bytes that use none begin with no sequence
-pub used_none : (s : List ℕ) → 0 ≡ used_of_lead (lead_of s) → lead_of s ≡ invalid
-used_none s = go (lead_of s) refl
-  where
-    go : (l : LeadCharacter) → lead_of s ≡ l → 0 ≡ used_of_lead l → l ≡ invalid
-    go (valid c n) e k = let (p, q) = used_within s c n e in absurd (omega arith)
-    go invalid e k = refl
-
--- bytes that use some begin with a character
-pub used_some : (s : List ℕ) (n : ℕ) → n ≡ used_of_lead (lead_of s) → (n ≡ 0 → ⊥) → lead_of s ≡ valid (code_of_lead (lead_of s)) n
-used_some s n = go (lead_of s) refl
-  where
-    go : (l : LeadCharacter) → lead_of s ≡ l → n ≡ used_of_lead l → (n ≡ 0 → ⊥) → l ≡ valid (code_of_lead l) n
-    go (valid c m) e k h = ap (valid c) (sym k)
-    go invalid e k h = absurd (h k)
 
 -- the test of all bytes, at place i: a byte below 128 is passed
 pub valid_one : (s : List ℕ) (i : ℕ) → i < length s → get_or s i 0 < 128 → valid_of (drop i s) ≡ valid_of (drop (i + 1) s)
