@@ -3,8 +3,8 @@
 use crate::opened::{Opened, part_of, put_values, state_of};
 use crate::outside::put_outside;
 use crate::readers::put_lists;
-use crate::shown::{Hex, Mark};
-use input::ValueRooms;
+use crate::shown::Part;
+use input::{Refusal, ValueRooms};
 use kinds::Kind;
 use params::State;
 use statement::RecordSpan;
@@ -55,7 +55,7 @@ fn put_by_id<W: Write>(c: &Opened<'_>, chars: &mut [u8], out: &mut W) -> io::Res
         put_required(c, id, out)?;
         match lookup::args(c.file, c.rows, c.slots, c.t, id) {
             Ok(s) => writeln!(out, " {} {}", s.start, s.end)?,
-            Err(f) => writeln!(out, " {}", Mark(f))?,
+            Err(f) => writeln!(out, " {}", Refusal(f))?,
         }
     }
     Ok(())
@@ -73,7 +73,7 @@ fn put_required<W: Write>(c: &Opened<'_>, id: u32, out: &mut W) -> io::Result<()
                 k.start, k.end, a.start, a.end, w.complex
             )
         }
-        Err(f) => write!(out, " {}", Mark(f)),
+        Err(f) => write!(out, " {}", Refusal(f)),
     }
 }
 
@@ -84,8 +84,8 @@ fn put_keywords<W: Write>(c: &Opened<'_>, out: &mut W) -> io::Result<()> {
             break;
         };
         match lookup::keyword(c.file, w) {
-            Ok(s) => writeln!(out, "w {i} {}", Hex(part_of(c.file, s.start, s.end)))?,
-            Err(f) => writeln!(out, "w {i} {}", Mark(f))?,
+            Ok(s) => writeln!(out, "w {i} {}", Part(part_of(c.file, s.start, s.end)))?,
+            Err(f) => writeln!(out, "w {i} {}", Refusal(f))?,
         }
     }
     Ok(())
@@ -138,7 +138,7 @@ fn put_part<W: Write>(file: &[u8], w: RecordSpan, kind: Kind, out: &mut W) -> io
     match parts::complex_part(file, w.args.start, w.args.end, w.complex, kind) {
         Ok(Some(p)) => write!(out, " {}:{}", p.args.start, p.args.end),
         Ok(None) => write!(out, " -"),
-        Err(f) => write!(out, " {}", Mark(f)),
+        Err(f) => write!(out, " {}", Refusal(f)),
     }
 }
 
@@ -181,10 +181,10 @@ fn put_skips<W: Write>(file: &[u8], at: State, n: usize, out: &mut W) -> io::Res
     let skipped = params::skip_n(file, &mut to, n);
     write!(out, " @{}", to.place)?;
     if let Err(f) = skipped {
-        write!(out, "!{}", Mark(f))?;
+        write!(out, "!{}", Refusal(f))?;
     }
     match params::is_empty(file, &mut to) {
         Ok(yes) => write!(out, ",{}@{}", u8::from(yes), to.place),
-        Err(f) => write!(out, "!{}", Mark(f)),
+        Err(f) => write!(out, "!{}", Refusal(f)),
     }
 }

@@ -1,9 +1,9 @@
 // Rows as they are kept beside a file and read again, and the tables in rooms that are too short.
 use crate::opened::Opened;
 use crate::outside::put_answered;
-use crate::shown::{Hex, Mark};
+use crate::shown::Part;
 use error::Fault;
-use input::{TableRooms, ValueRooms};
+use input::{Refusal, TableRooms, ValueRooms};
 use lookup::Tables;
 use std::io;
 use std::io::Write;
@@ -33,17 +33,17 @@ fn put_keeps<W: Write>(c: &Opened<'_>, chars: &mut [u8], out: &mut W) -> io::Res
     let size = n.saturating_mul(KEPT);
     match rows_kept::keep_rows(len, c.rows, n, chars) {
         Ok(k) => {
-            let bytes = Hex(&chars[..k.saturating_mul(KEPT).min(chars.len())]);
+            let bytes = Part(&chars[..k.saturating_mul(KEPT).min(chars.len())]);
             writeln!(out, "kept {k} {bytes}")?;
         }
-        Err(f) => writeln!(out, "kept {}", Mark(f))?,
+        Err(f) => writeln!(out, "kept {}", Refusal(f))?,
     }
     let short = size.saturating_sub(1).min(chars.len());
     let got = rows_kept::keep_rows(len, c.rows, n, &mut chars[..short]);
     put_count("kept short", got, out)?;
     match rows_kept::keep_rows(0, c.rows, n, chars) {
         Ok(k) => writeln!(out, "kept far {k}"),
-        Err(f) => writeln!(out, "kept far {}", Mark(f)),
+        Err(f) => writeln!(out, "kept far {}", Refusal(f)),
     }
 }
 
@@ -76,7 +76,7 @@ fn put_count<W: Write>(word: &str, got: Result<usize, Fault>, out: &mut W) -> io
     match got {
         Ok(0) => writeln!(out, "{word} -"),
         Ok(n) => writeln!(out, "{word} {n}"),
-        Err(f) => writeln!(out, "{word} {}", Mark(f)),
+        Err(f) => writeln!(out, "{word} {}", Refusal(f)),
     }
 }
 

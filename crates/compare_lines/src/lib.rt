@@ -13,5 +13,4 @@ mod walks;
 pub use asked::put_asked;
 pub use kept::{put_full, put_kept};
 pub use opened::{Opened, put_answers};
-pub use shown::Mark;
 pub use walks::put_walks;

@@ -1,6 +1,7 @@
 // A case whose tables are built, and what `answers` says of it: the lines `scan`, `h`, `r`, `l`, `f`, `name`, `system` and `units`.
-use crate::shown::{Bits, Hex, Mark};
+use crate::shown::{Bits, Part};
 use error::Fault;
+use input::Refusal;
 use lookup::Tables;
 use params::State;
 use statement::Range;
@@ -106,7 +107,7 @@ pub fn put_values<W: Write>(got: Result<Values, Fault>, out: &mut W) -> io::Resu
             write!(out, " {} {}", Bits(v.length), Bits(v.angle))?;
             writeln!(out, " {} {}", Bits(v.tolerance), u8::from(v.resolved))
         }
-        Err(f) => writeln!(out, " {}", Mark(f)),
+        Err(f) => writeln!(out, " {}", Refusal(f)),
     }
 }
 
@@ -119,8 +120,8 @@ fn put_title<W: Write>(
     out: &mut W,
 ) -> io::Result<()> {
     match got {
-        Ok(text) => writeln!(out, "{word} {}", Hex(text_bytes(c.file, text, chars))),
-        Err(f) => writeln!(out, "{word} {}", Mark(f)),
+        Ok(text) => writeln!(out, "{word} {}", Part(text_bytes(c.file, text, chars))),
+        Err(f) => writeln!(out, "{word} {}", Refusal(f)),
     }
 }
 

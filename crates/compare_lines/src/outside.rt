@@ -1,6 +1,6 @@
 // The line `nine`: what is answered of spans that lie outside the file or run backwards.
-use crate::shown::Mark;
 use error::Fault;
+use input::Refusal;
 use kinds::Kind;
 use params::State;
 use statement::{Range, RecordSpan};
@@ -41,6 +41,6 @@ fn put_span<W: Write>(file: &[u8], start: usize, end: usize, out: &mut W) -> io:
 pub fn put_answered<W: Write, T: Drop>(got: Result<T, Fault>, out: &mut W) -> io::Result<()> {
     match got {
         Ok(_) => write!(out, " answered"),
-        Err(f) => write!(out, " {}", Mark(f)),
+        Err(f) => write!(out, " {}", Refusal(f)),
     }
 }

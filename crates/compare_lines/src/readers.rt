@@ -1,9 +1,9 @@
 // What each reader says at one place: its name, the place where it then stands, and its answer or its refusal.
 use crate::opened::{part_of, text_bytes};
-use crate::shown::{Answer, Hex, Item, Joined, Mark};
+use crate::shown::{Answer, Item, Joined, Part};
 use error::Fault;
 use grids::Size;
-use input::ValueRooms;
+use input::{Refusal, ValueRooms};
 use params::State;
 use std::io;
 use std::io::Write;
@@ -17,7 +17,7 @@ fn put_read<W: Write>(
 ) -> io::Result<()> {
     match got {
         Ok(answer) => writeln!(out, "{name} @{} {answer}", to.place),
-        Err(f) => writeln!(out, "{name} @{} {}", to.place, Mark(f)),
+        Err(f) => writeln!(out, "{name} @{} {}", to.place, Refusal(f)),
     }
 }
 
@@ -96,7 +96,7 @@ fn put_text<W: Write>(
     let mut to = at;
     match words::next_str(file, &mut to, &mut v.chars[..n]) {
         Ok(text) => {
-            let bytes = Hex(text_bytes(file, text, v.chars.as_slice()));
+            let bytes = Part(text_bytes(file, text, v.chars.as_slice()));
             writeln!(out, "str @{} {bytes}", to.place)
         }
         Err(f) => put_read("str", to, Err(f), out),

@@ -1,21 +1,7 @@
 // How answers are shown.
-use error::Fault;
+use input::Hex;
 use scalars::Truth;
 use std::fmt;
-
-// A refusal, as `NUMBER/REASON@PLACE`.
-#[derive(Clone, Copy)]
-pub struct Mark(pub Fault);
-
-impl fmt::Display for Mark {
-    fn fmt<W: fmt::Write>(&self, f: &mut fmt::Formatter<W>) -> fmt::Result {
-        let fault = self.0;
-        let number = fault.number();
-        let reason = fault.reason();
-        let place = fault.place();
-        write!(f, "{number}/{reason}@{place}")
-    }
-}
 
 // What a reader answers.
 #[derive(Clone, Copy)]
@@ -40,7 +26,7 @@ impl fmt::Display for Answer<'_> {
             Answer::Truth(Truth::True) => write!(f, "T"),
             Answer::Truth(Truth::False) => write!(f, "F"),
             Answer::Truth(Truth::Unknown) => write!(f, "U"),
-            Answer::Part(t) => write!(f, "{}", Hex(t)),
+            Answer::Part(t) => write!(f, "{}", Part(t)),
         }
     }
 }
@@ -62,17 +48,14 @@ impl fmt::Display for Bits {
 
 // Bytes in hex digits, `-` where there are none.
 #[derive(Clone, Copy)]
-pub struct Hex<'a>(pub &'a [u8]);
+pub struct Part<'a>(pub &'a [u8]);
 
-impl fmt::Display for Hex<'_> {
+impl fmt::Display for Part<'_> {
     fn fmt<W: fmt::Write>(&self, f: &mut fmt::Formatter<W>) -> fmt::Result {
         if self.0.is_empty() {
             return write!(f, "-");
         }
-        for b in self.0 {
-            write!(f, "{b:02x}")?;
-        }
-        Ok(())
+        write!(f, "{}", Hex(self.0))
     }
 }
 

@@ -1,8 +1,7 @@
 // The walks: of each header row, each simple data row and each part of a complex one, what all readers say at each of its parameters.
 use crate::opened::{Opened, state_of};
 use crate::readers::{put_lists, put_scalars};
-use crate::shown::Mark;
-use input::ValueRooms;
+use input::{Refusal, ValueRooms};
 use statement::Range;
 use std::io;
 use std::io::Write;
@@ -34,7 +33,7 @@ fn put_walk<W: Write>(file: &[u8], args: Range, v: &mut ValueRooms, out: &mut W)
         put_lists(file, at, usize::MAX, v, out)?;
         match params::skip(file, &mut at) {
             Ok(()) => writeln!(out, "skip @{}", at.place)?,
-            Err(f) => return writeln!(out, "skip @{} {}", at.place, Mark(f)),
+            Err(f) => return writeln!(out, "skip @{} {}", at.place, Refusal(f)),
         }
     }
     Ok(())
@@ -64,7 +63,7 @@ fn put_parts<W: Write>(
                 at = a.end.saturating_add(1);
             }
             Ok(None) => return Ok(()),
-            Err(f) => return writeln!(out, "part {i} {}", Mark(f)),
+            Err(f) => return writeln!(out, "part {i} {}", Refusal(f)),
         }
     }
     Ok(())

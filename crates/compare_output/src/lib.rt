@@ -2,8 +2,8 @@
 #![tactic(auto)]
 
 use compare_input::Taken;
-use compare_lines::{Mark, Opened};
-use input::{CHUNK, Feed, Output, Sizes, TableRooms, ValueRooms, ValueSizes};
+use compare_lines::Opened;
+use input::{CHUNK, Feed, Output, Refusal, Sizes, TableRooms, ValueRooms, ValueSizes};
 use lookup::Tables;
 use std::alloc::AllocError;
 use std::io;
@@ -92,7 +92,7 @@ fn put_case<C: Course, W: Write>(
             course.tell(number, &c, v, out)?;
             course.tell_last(file, t, tables, out)
         }
-        Err(f) => writeln!(out, "refused {}", Mark(f)),
+        Err(f) => writeln!(out, "refused {}", Refusal(f)),
     }
 }
 

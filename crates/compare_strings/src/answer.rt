@@ -1,23 +1,11 @@
 // The answer to a string.
+use input::Hex;
+use std::io;
 use std::io::Write;
-use std::{fmt, io};
 use strings::Decoded;
 
 // What the room is filled with: a byte that no UTF-8 has.
 const MARK: u8 = 255;
-
-// Bytes in hex digits.
-#[derive(Clone, Copy)]
-struct Hex<'a>(&'a [u8]);
-
-impl fmt::Display for Hex<'_> {
-    fn fmt<W: fmt::Write>(&self, f: &mut fmt::Formatter<W>) -> fmt::Result {
-        for b in self.0 {
-            write!(f, "{b:02x}")?;
-        }
-        Ok(())
-    }
-}
 
 // Decodes a string into this room, and puts what it is. The room is changed where a text stands, and nowhere else.
 pub fn put_text<W: Write>(

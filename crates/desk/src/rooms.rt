@@ -6,9 +6,9 @@ ghost use Rattle.std.specs.Prelude.{◌≤◌, length, IfOk};
 
 use crate::command::Task;
 use crate::found;
-use crate::shown::{Refusal, Spot, put_refusal, words};
+use crate::shown::{Spot, put_refusal, words};
 use error::Fault;
-use input::{FEW, LARGE, Output, Sizes, Source, TableRooms};
+use input::{FEW, LARGE, Output, Refusal, Sizes, Source, TableRooms};
 use std::alloc::AllocError;
 use std::io::{Read, Write};
 use std::rt::Files;

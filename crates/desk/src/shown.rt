@@ -1,5 +1,6 @@
 // How parts of a file and refusals are shown.
 use error::{Fault, Reason};
+use input::Refusal;
 use line_column::LineColumn;
 use std::io::Write;
 use std::{fmt, io};
@@ -16,20 +17,6 @@ pub fn put_part<W: Write>(out: &mut W, file: &[u8], start: usize, end: usize) ->
         }
     }
     Ok(())
-}
-
-// A refusal, as `NUMBER/REASON@PLACE`.
-#[derive(Clone, Copy)]
-pub struct Refusal(pub Fault);
-
-impl fmt::Display for Refusal {
-    fn fmt<W: fmt::Write>(&self, f: &mut fmt::Formatter<W>) -> fmt::Result {
-        let fault = self.0;
-        let number = fault.number();
-        let reason = fault.reason();
-        let place = fault.place();
-        write!(f, "{number}/{reason}@{place}")
-    }
 }
 
 // `refused NUMBER/REASON@PLACE: WORDS`

@@ -1,9 +1,11 @@
-// What the programs are given: files that arguments name, standard input, how much stack they may use, and the sizes of their rooms.
+// What the programs are given and write with: files that arguments name, standard input and output, how much stack they may use, the sizes
+// of their rooms, and how bytes and refusals are shown.
 #![tactic(auto)]
 
 mod feed;
 mod limit;
 mod output;
+mod shown;
 mod sizes;
 mod source;
 
@@ -12,6 +14,7 @@ ghost use Rattle.io.specs.Counts.{IsPrefixLen};
 pub use feed::{Feed, NoNumber};
 pub use limit::stack_limit;
 pub use output::Output;
+pub use shown::{Hex, Refusal};
 pub use sizes::{
     CHUNK, FEW, LARGE, MIDDLE, MIDDLE_VALUES, SMALL, SMALL_KEPT, SMALL_VALUES, Sizes, TableRooms,
     ValueRooms, ValueSizes, room,
@@ -34,6 +37,7 @@ pub fn fill<R: Read>(from: &mut R, room: &mut [u8]) -> BytesRead
     ensures { IsPrefixLen result.count room.new }
 {
     let mut count = 0;
+    // Kept: a read brings any number of bytes, so that no range counts them.
     while count < room.len() {
         match from.read(&mut room[count..]) {
             Ok(0) => break,
