@@ -3,4 +3,3 @@ pub mod Behind
 pub mod Rooms
 pub mod Laws
 pub mod Most
-pub mod Only

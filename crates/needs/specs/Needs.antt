@@ -2,7 +2,7 @@
 -- Assumes nothing.
 -- Definitions to be believed: no law, and nothing computed that no theorem ties (docs/BELIEVE.md).
 use Rattle.std.specs.Prelude.{ℕ, List, [], ◌∷◌, ◌++◌, length, ◌≡◌}
-use Rattle.error.specs.Refusal.{Told, good, bad, told}
+use Rattle.error.specs.Refusal.{Told}
 use Rattle.statement.specs.Rows.{Row, HeaderRow, mapped}
 use Rattle.scan.specs.Records.{Table, largest}
 use Rattle.scan.specs.File.{scan_of}
@@ -10,7 +10,6 @@ use Rattle.argument_sizes.specs.declared.Sizes.{Sizes}
 use Rattle.argument_sizes.specs.Lengths.{record_sizes_of}
 use Rattle.argument_sizes.specs.Rules.{greater_sizes, no_sizes, Arg}
 use Rattle.needs.specs.declared.Needs.{Needs}
-use Rattle.needs.specs.declared.Needed as NeededCode
 
 -- the most that any of a list of rows needs, each as g says
 unfoldable pub most_of : {R : Type 0} → (R → Sizes) → List R → Sizes
@@ -32,11 +31,6 @@ needs h r m z = record { headers = h; records = r; max = m; items = z.items; tex
 -- what a table needs: its rows of both kinds, the largest id, and the most that any parameter of any of its records needs
 abbrev pub needs_in : List ℕ → Table → Needs
 needs_in s t = needs (length t.headers) (length t.records) (largest t.records) (greater_sizes (head_sizes s t.headers) (row_sizes s t.records))
-
--- what the code's answer about a file's needs says: the needs, or a refusal
-abbrev pub told_needed : NeededCode.Needed → Told Needs
-told_needed (NeededCode.TheVariants.Is n) = good n
-told_needed (NeededCode.TheVariants.Refused f) = bad (told f)
 
 -- what the scan's answer needs where it has rooms that suffice: as many rows of each kind as the file has bytes
 unfoldable pub needs_of : List ℕ → Told Needs

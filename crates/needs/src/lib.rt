@@ -5,16 +5,16 @@
 // reader finds that is set into a list aside, as the strings inside lists, for which a host asks `hooflift_text_length`.
 #![tactic(auto)]
 
-ghost use Rattle.std.specs.Prelude.{◌≡◌, max, length};
+ghost use Rattle.std.specs.Prelude.{◌≡◌, length};
+ghost use Rattle.error.specs.Refusal.{told_result};
 ghost use Rattle.statement.specs.Rows.{mapped};
 ghost use Rattle.scan.specs.File.{reading_of};
 ghost use Rattle.argument_sizes.specs.Lengths.{record_sizes_of};
 ghost use Rattle.argument_sizes.specs.Rules.{greater_sizes};
-ghost use Rattle.needs.specs.Needs.{needs, needs_in, told_needed, needs_of};
+ghost use Rattle.needs.specs.Needs.{needs_in, needs_of};
 
 use argument_sizes::Sizes;
 use error::Fault;
-use scan::Scanned;
 use statement::{Said, Section};
 
 // How many header rows and data rows, the largest id, the most numbers of a list or a grid, the longest text, and the most rows of a grid.
@@ -28,13 +28,6 @@ pub struct Needs {
     pub rows: usize,
 }
 
-// What a file needs, or why it is refused.
-#[derive(Clone, Copy)]
-pub enum Needed {
-    Is(Needs),
-    Refused(Fault),
-}
-
 // What is needed so far, and by one record more.
 fn with_record(most: Sizes, s: &[u8], place: usize, end: usize, complex: u32) -> Sizes
     ensures { result ≡ greater_sizes most (record_sizes_of s.now place end complex) }
@@ -43,8 +36,8 @@ fn with_record(most: Sizes, s: &[u8], place: usize, end: usize, complex: u32) ->
 }
 
 // Reads the file in order and counts. There are never more rows than bytes.
-fn pass(s: &[u8]) -> Needed
-    ensures { told_needed result ≡ mapped (needs_in s.now) (reading_of s.now (length s.now) (length s.now)) }
+fn pass(s: &[u8]) -> Result<Needs, Fault>
+    ensures { told_result result ≡ mapped (needs_in s.now) (reading_of s.now (length s.now) (length s.now)) }
 {
     let mut i = 0;
     let mut section = Section::Outside;
@@ -56,10 +49,19 @@ fn pass(s: &[u8]) -> Needed
         items: 0,
         rows: 0,
     };
-    loop {
-        match statement::next_statement(s, i, section) {
-            Said::Ends => return found(headers, records, max, most),
-            Said::Refuses(f) => return Needed::Refused(f),
+    'read: loop {
+        let said = statement::next_statement(s, i, section)?;
+        match said {
+            Said::Ends => {
+                return Ok(Needs {
+                    headers,
+                    records,
+                    max,
+                    items: most.items,
+                    text: most.text,
+                    rows: most.rows,
+                });
+            }
             Said::Moves(to, next) => {
                 section = to;
                 i = next;
@@ -73,7 +75,7 @@ fn pass(s: &[u8]) -> Needed
             Said::Records(span, _, next) => {
                 section = Section::InData;
                 records += 1;
-                max = common::greater(max, span.id);
+                max = max.max(span.id);
                 most = with_record(most, s, span.args.start, span.args.end, span.complex);
                 i = next;
             }
@@ -81,32 +83,20 @@ fn pass(s: &[u8]) -> Needed
     }
 }
 
-fn found(headers: usize, records: usize, max: u32, most: Sizes) -> Needed
-    ensures { result ≡ Needed.Is (needs headers records max most) }
-{
-    Needed::Is(Needs {
-        headers,
-        records,
-        max,
-        items: most.items,
-        text: most.text,
-        rows: most.rows,
-    })
-}
-
 // What a file needs; or what the scan refuses it with, whatever is lent. The scan itself, with nothing lent, tells all that comes before the
 // first record.
-pub fn count(file: &[u8]) -> Needed
-    ensures { told_needed result ≡ needs_of file.now }
+pub fn count(file: &[u8]) -> Result<Needs, Fault>
+    ensures { told_result result ≡ needs_of file.now }
 {
     let mut headers = [0u32; 1];
     let mut rows = [0u32; 1];
-    let r = scan::scan(file, &mut headers[..0], &mut rows[..0], 0);
-    let Scanned::Refused(f) = r else {
-        return pass(file);
-    };
-    if error::number(f) != 8 {
-        return Needed::Refused(f);
+    match scan::scan(file, &mut headers[..0], &mut rows[..0], 0) {
+        Ok(_) => pass(file),
+        Err(f) => {
+            if f.number() != 8 {
+                return Err(f);
+            }
+            pass(file)
+        }
     }
-    pass(file)
 }
