@@ -53,6 +53,7 @@ pub fn entity(rows: &[u32], t: Tables, k: usize) -> Option<RecordSpan>
 }
 
 // The last record with this id, or none.
+// Kept: `rows` and `slots` are slices of their own, as the C interface lends them.
 pub fn get(rows: &[u32], slots: &[u64], t: Tables, id: u32) -> Option<RecordSpan>
     ensures { option_map told_row result ≡ row_found rows.now (searched rows.now slots.now t.ids id) }
 {

@@ -95,6 +95,7 @@ fn put_bytes(out: &mut [u8], k: usize, w: RecordSpan)
     requires { k * 24 + 24 ≤ length out.old }
     ensures { out.new ≡ sets out.old (k * 24) (row_bytes (told_row w)) }
 {
+    // Kept: six lines, as a row is read, and not a loop over an array of six that the row would first be copied to.
     let at = k * 24;
     put_number(out, at, w.id as usize);
     put_number(out, at + 4, w.keyword.start);

@@ -6,4 +6,3 @@ use Rattle.rows_kept.proofs.fine_bytes.Given as goal
 
 abbrev pub invariant-loop-k : goal.invariant-loop-k
 invariant-loop-k l = (l.k ≤ l.n) × (fine_all l.len (kept_row_at l.bytes) l.k ≡ true)
-

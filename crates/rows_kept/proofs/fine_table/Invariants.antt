@@ -7,4 +7,3 @@ use Rattle.rows_kept.proofs.fine_table.Given as goal
 
 abbrev pub invariant-loop-k : goal.invariant-loop-k
 invariant-loop-k l = (l.k ≤ l.n) × (fine_all l.len (row_numbers l.rows) l.k ≡ true)
-

@@ -7,4 +7,3 @@ use Rattle.rows_kept.proofs.get_rows.Given as goal
 
 abbrev pub invariant-loop-k : goal.invariant-loop-k
 invariant-loop-k l = (l.k ≤ l.n) × (length l.rows ≡ length l.initial.rows) × (l.rows ≡ rows_laid (first_rows (kept_row_at l.bytes) l.k) l.initial.rows)
-

@@ -7,4 +7,3 @@ use Rattle.rows_kept.proofs.put_rows.Given as goal
 
 abbrev pub invariant-loop-k : goal.invariant-loop-k
 invariant-loop-k l = (l.k ≤ l.n) × (length l.out ≡ length l.initial.out) × (l.out ≡ bytes_after (first_rows (row_numbers l.rows) l.k) l.initial.out)
-
