@@ -28,6 +28,8 @@ const ALL_KINDS: [Kind; 12] = [
 ];
 
 // All but what needs a room for kept rows, or for tables.
+//
+// Kept: a case, the rooms and the output are lent one by one. A struct of the three would lend them all to functions that use two.
 pub fn put_asked<W: Write>(c: &Opened<'_>, v: &mut ValueRooms, out: &mut W) -> io::Result<()> {
     let is_empty = lookup::is_empty(c.t);
     writeln!(out, "count {} {}", lookup::len(c.t), u8::from(is_empty))?;

@@ -31,6 +31,8 @@ fn main(rt: HostRuntime) -> Result<(), AllocError> {
     Ok(())
 }
 
+// Kept: the runtime, the stack limit and the output are passed one by one: the runtime is a handle, and the output holds a copy of it.
+//
 // Does what the command line asks, one task after the other. Where it does not begin with a task's word, all usage is told, and nothing else
 // is done.
 fn tasks<R: Env + Files + Input + Print + Eprint + AllocGlobal>(

@@ -9,14 +9,21 @@ use std::{fmt, io};
 // not in the file is put as none.
 pub fn put_part<W: Write>(out: &mut W, file: &[u8], start: usize, end: usize) -> io::Result<()> {
     let bytes = file.get(start..end).unwrap_or(&[]);
-    for b in bytes {
-        if *b < b' ' || *b == 127 {
-            write!(out, "\\x{b:02x}")?;
-        } else {
-            out.write_all(&[*b])?;
+    for piece in bytes.split_inclusive(|b| is_hidden(*b)) {
+        match piece.split_last() {
+            Some((b, plain)) if is_hidden(*b) => {
+                out.write_all(plain)?;
+                write!(out, "\\x{b:02x}")?;
+            }
+            _ => out.write_all(piece)?,
         }
     }
     Ok(())
+}
+
+// Whether a byte is below a space, or 127: a line end in a file ends no line.
+fn is_hidden(b: u8) -> bool {
+    b < b' ' || b == 127
 }
 
 // `refused NUMBER/REASON@PLACE: WORDS`

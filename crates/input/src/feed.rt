@@ -5,6 +5,7 @@ ghost use Rattle.io.specs.Counts.{IsPrefixLen};
 use crate::number_of;
 use std::io::Read;
 
+// Kept: the library's BufReader holds its chunk on the heap, where making it may fail; this one is lent to programs that fail nowhere.
 #[derive(Drop)]
 pub struct Feed<'a, R> {
     from: R,
