@@ -1,10 +1,11 @@
 -- Laws for the code: each way out of a function, over plain variables. Assumes nothing.
 use Prim.Native.Nat.{ℕ, zero, suc, ◌+◌, ◌-◌, ◌≤◌, ◌<◌, min}
-use Rattle.std.specs.Prelude.{◌≡◌, Bool, ◌&&◌, List, [], ◌∷◌, map, eqb, ltb, ℤ, take, drop, get_or}
+use Rattle.std.specs.Prelude.{◌≡◌, Bool, ◌&&◌, List, [], ◌∷◌, map, eqb, ltb, ℤ, take, drop, get_or, Option, Some, None, Result, Ok, Err, is_ok}
 use Rattle.std.proofs.Math.Path.{refl, sym, ap}
 use Rattle.std.proofs.Common.{◌∙◌, subst, arith, length-drop, take-take, drop-drop, length-take-le}
 use Rattle.std.proofs.Math.Bool.{true, false}
-use Rattle.std.proofs.Math.Option.{Option, none, some}
+use Rattle.std.proofs.Math.Option.{none, some}
+use Rattle.std.specs.Option.{option_or}
 use Rattle.std.proofs.Math.Numerals.{add-one}
 use borrow.Author.Tests.{le-leb, lt-ltb, ltb-true}
 use Rattle.std.specs.Float.{binary64}
@@ -20,9 +21,11 @@ use Rattle.table.specs.Table.{table_rows, row_numbers}
 use Rattle.statement.specs.Rows.{Row, HeaderRow, header_row_of}
 use Rattle.statement.specs.declared.HeaderSpan.{HeaderSpan}
 use Rattle.kinds.specs.declared.Kind.{Kind}
-use Rattle.kinds.specs.declared.Kind.TheVariants.{GeometricRepresentationContext, GlobalUnitAssignedContext, GlobalUncertaintyAssignedContext, LengthUnit, PlaneAngleUnit, SolidAngleUnit, UncertaintyMeasureWithUnit}
+use Rattle.kinds.specs.declared.Kind.TheVariants.{GeometricRepresentationContext, GlobalUnitAssignedContext, GlobalUncertaintyAssignedContext, LengthUnit, PlaneAngleUnit, SolidAngleUnit, SiUnit, ConversionBasedUnit, UncertaintyMeasureWithUnit, LengthMeasureWithUnit, Complex, Other}
 use Rattle.params.specs.Reader.{param_of}
-use Rattle.params.specs.Answer.{Read, reading, Span, span, onward}
+use Rattle.params.specs.Answer.{Read, reading, Span, span, onward, told_read}
+use Rattle.params.specs.declared.State.{State}
+use Rattle.statement.specs.declared.Range.{Range}
 use Rattle.scalars.specs.Scalars.{measure_of}
 use Rattle.scalars.specs.Answer as Scalars
 use Rattle.reals.specs.Scalar.{whole_of, reference_of}
@@ -38,17 +41,13 @@ use Rattle.lists.specs.Fill.{fill_bad, fill_last, fill_more, fill_head}
 use Rattle.lookup.specs.Lookup.{bytes_between, span_in, kind_in, row_in}
 use Rattle.lookup.specs.Lookup as Lookup
 use Rattle.factors.specs.SeenRecords.{good_by, same_kind, unit_part_of, SeenRecord, seen_record_of, self_or}
-use Rattle.factors.specs.Factor.{length_of, angle_of}
+use Rattle.factors.specs.Factor.{length_of, angle_of, number_or_none}
 use Rattle.factors.specs.Unit.{option_by}
 use Rattle.factors.specs.Laws.{span_good, same_bad}
 use Rattle.units.specs.Answer as unit
-use Rattle.units.specs.Answer.{Units, length_role, angle_role, solid_role, role_by, with_length, with_angle, is_read, reads_integer, is_context, defaults, with_tolerance, uncertain_by, refs_in, told_unit_role, uncertainty_of, uncertainty_by}
+use Rattle.units.specs.Answer.{Units, length_role, angle_role, solid_role, role_by, with_length, with_angle, is_read, reads_integer, is_context, defaults, with_tolerance, uncertain_by, refs_in, uncertainty_of, uncertainty_by}
 use Rattle.units.specs.Units.{role_of, first_role, unit_of, unit_by, units_by, tolerance_by, listed_units, listed_tolerance, context_of, decided_or, context_or_later, resolve_of}
-use Rattle.units.specs.Code.{role_after, kept_role, kind_at, context_or, deciding, seen_records_from, ids_of, ReadsAll, RefsTo}
-use Rattle.units.specs.declared.listed.Refs.{Refs}
-use Rattle.units.specs.declared.listed.Refs.TheVariants as refs
-use Rattle.units.specs.declared.role.UnitRole.{UnitRole}
-use Rattle.units.specs.declared.role.UnitRole.TheVariants.{Length, Angle, Solid, Nothing, Refused}
+use Rattle.units.specs.Code.{kind_at, context_or, deciding, seen_records_from, ids_of, ReadsAll, RefsTo}
 
 -- ---- what is assumed
 -- 1.0 is the f64 nearest to 1
@@ -62,104 +61,81 @@ unfolding to_bits of_bits near near_units size
 thousandth_bits = refl
 
 -- ---- roles, the parts read one by one
--- the role that the code has found so far, or none
-abbrev pub role_in : UnitRole → Option unit.Role
-role_in Length = some length_role
-role_in Angle = some angle_role
-role_in Solid = some solid_role
-role_in Nothing = none
-role_in (Refused f) = none
-
--- no part was refused so far
-abbrev pub NoRoleRefused : UnitRole → Type 0
-NoRoleRefused Length = Unit {0}
-NoRoleRefused Angle = Unit {0}
-NoRoleRefused Solid = Unit {0}
-NoRoleRefused Nothing = Unit {0}
-NoRoleRefused (Refused f) = ⊥
+-- a kind that is none of the three gives no role
+pub role_other : (k : Kind) → (k ≡ LengthUnit → ⊥) → (k ≡ PlaneAngleUnit → ⊥) → (k ≡ SolidAngleUnit → ⊥) → None ≡ role_by k
+role_other GeometricRepresentationContext a b c = refl
+role_other GlobalUnitAssignedContext a b c = refl
+role_other GlobalUncertaintyAssignedContext a b c = refl
+role_other LengthUnit a b c = absurd (a refl)
+role_other PlaneAngleUnit a b c = absurd (b refl)
+role_other SolidAngleUnit a b c = absurd (c refl)
+role_other SiUnit a b c = refl
+role_other ConversionBasedUnit a b c = refl
+role_other UncertaintyMeasureWithUnit a b c = refl
+role_other LengthMeasureWithUnit a b c = refl
+role_other Complex a b c = refl
+role_other Other a b c = refl
 
 -- the role of the first part that gives one
 abbrev pub role_among : List ℕ → List HeaderRow → Option unit.Role
 role_among s ps = first_role (map (unit_part_of s) ps)
 
+-- the role that was found before, or another
+abbrev pub role_or : Option unit.Role → Option unit.Role → Option unit.Role
+role_or got r = option_by r Some got
+
 -- where the reading of parts stands at the place i: so many steps are enough, and what was found and what is left give the answer
-pub record RoleSeeking (s : List ℕ) (start end i : ℕ) (got : UnitRole) : Type 0 where
+pub record RoleSeeking (s : List ℕ) (start end i : ℕ) (got : Option unit.Role) : Type 0 where
   pub steps : ℕ
   pub enough : length s < steps + i
   pub inside : i ≤ length s
-  pub fine : NoRoleRefused got
-  pub gives : good_by (λ ps. option_by (role_among s ps) some (role_in got)) (parts_from steps s i end) ≡ good_by (role_among s) (parts_of s start end)
+  pub gives : good_by (λ ps. role_or got (role_among s ps)) (parts_from steps s i end) ≡ good_by (role_among s) (parts_of s start end)
 
--- what the code tells of the role that it has found so far
-found_told : (got : UnitRole) → NoRoleRefused got → told_unit_role got ≡ good (option_by none some (role_in got))
-found_told Length h = refl
-found_told Angle h = refl
-found_told Solid h = refl
-found_told Nothing h = refl
-found_told (Refused f) h = absurd h
-
--- no kind's role is a refusal
-after_fine : (k : Kind) → NoRoleRefused (role_after k)
-after_fine k = go (same_kind k LengthUnit) (same_kind k PlaneAngleUnit) (same_kind k SolidAngleUnit)
-  where
-    go : (a b d : Bool) → NoRoleRefused (pick a Length (pick b Angle (pick d Solid Nothing)))
-    go true b d = tt
-    go false true d = tt
-    go false false true = tt
-    go false false false = tt
-
--- a part more, whatever its kind, refuses nothing
-fine_more : (got : UnitRole) (k : Kind) → NoRoleRefused got → NoRoleRefused (kept_role got (role_after k))
-fine_more Length k h = tt
-fine_more Angle k h = tt
-fine_more Solid k h = tt
-fine_more Nothing k h = after_fine k
-fine_more (Refused f) k h = absurd h
-
--- the code's role of a kind is the kind's
-after_is : (k : Kind) → role_in (role_after k) ≡ role_by k
-after_is k = go (same_kind k LengthUnit) (same_kind k PlaneAngleUnit) (same_kind k SolidAngleUnit)
-  where
-    go : (a b d : Bool) → role_in (pick a Length (pick b Angle (pick d Solid Nothing))) ≡ pick a (some length_role) (pick b (some angle_role) (pick d (some solid_role) none))
-    go true b d = refl
-    go false true d = refl
-    go false false true = refl
-    go false false false = refl
+-- the library's choice of the first role of two is that
+pub or_is : (got r : Option unit.Role) → option_or got r ≡ role_or got r
+or_is None r = refl
+or_is (Some g) r = refl
 
 -- a role that was found goes before a further part's, and that before the role of the parts after it
-more_found : (got : UnitRole) (k : Kind) (rest : Option unit.Role) → NoRoleRefused got → option_by rest some (role_in (kept_role got (role_after k))) ≡ option_by (option_by rest some (role_by k)) some (role_in got)
-more_found Length k rest h = refl
-more_found Angle k rest h = refl
-more_found Solid k rest h = refl
-more_found Nothing k rest h = ap (option_by rest some) (after_is k)
-more_found (Refused f) k rest h = absurd h
+more_found : (got r rest : Option unit.Role) → role_or (role_or got r) rest ≡ role_or got (role_or r rest)
+more_found None r rest = refl
+more_found (Some g) r rest = refl
+
+-- without further parts the role is the one that was found
+last_found : (got : Option unit.Role) → got ≡ role_or got None
+last_found None = refl
+last_found (Some g) = refl
 
 module _ (s : List ℕ) (start end : ℕ) where
   -- before the first part is read no role is found
-  pub role_seek_starts : start ≤ length s → RoleSeeking s start end start Nothing
-  role_seek_starts h = record { steps = suc (length s); enough = omega arith; inside = h; fine = tt; gives = refl }
+  pub role_seek_starts : start ≤ length s → RoleSeeking s start end start None
+  role_seek_starts h = record { steps = suc (length s); enough = omega arith; inside = h; gives = unfound (parts_of s start end) }
+    where
+      unfound : (x : Told (List HeaderRow)) → good_by (λ ps. role_or None (role_among s ps)) x ≡ good_by (role_among s) x
+      unfound (good ps) = refl
+      unfound (bad q) = refl
 
-  module _ (i : ℕ) (got : UnitRole) (f : RoleSeeking s start end i got) where
+  module _ (i : ℕ) (got : Option unit.Role) (f : RoleSeeking s start end i got) where
     -- the steps that are left after one part
-    later : (n : ℕ) × (suc n ≡ f.steps) × (good_by (λ ps. option_by (role_among s ps) some (role_in got)) (parts_by (next_part_of s i end) (λ p. parts_from n s (p.arg_end + 1) end)) ≡ good_by (role_among s) (parts_of s start end))
+    later : (n : ℕ) × (suc n ≡ f.steps) × (good_by (λ ps. role_or got (role_among s ps)) (parts_by (next_part_of s i end) (λ p. parts_from n s (p.arg_end + 1) end)) ≡ good_by (role_among s) (parts_of s start end))
     unfolding parts_from
     later = go f.steps f.enough f.gives
       where
-        go : (n : ℕ) → length s < n + i → good_by (λ ps. option_by (role_among s ps) some (role_in got)) (parts_from n s i end) ≡ good_by (role_among s) (parts_of s start end)
-            → (m : ℕ) × (suc m ≡ n) × (good_by (λ ps. option_by (role_among s ps) some (role_in got)) (parts_by (next_part_of s i end) (λ p. parts_from m s (p.arg_end + 1) end)) ≡ good_by (role_among s) (parts_of s start end))
+        go : (n : ℕ) → length s < n + i → good_by (λ ps. role_or got (role_among s ps)) (parts_from n s i end) ≡ good_by (role_among s) (parts_of s start end)
+            → (m : ℕ) × (suc m ≡ n) × (good_by (λ ps. role_or got (role_among s ps)) (parts_by (next_part_of s i end) (λ p. parts_from m s (p.arg_end + 1) end)) ≡ good_by (role_among s) (parts_of s start end))
         go zero l e = let w = f.inside in absurd (omega arith)
         go (suc m) l e = (m, refl, e)
 
     -- no part is left: the role that was found is the answer
-    pub role_seek_over : next_part_of s i end ≡ good none → told_unit_role got ≡ good_by (role_among s) (parts_of s start end)
-    role_seek_over e = found_told got f.fine ∙ (rw e at later.2)
+    pub role_seek_over : next_part_of s i end ≡ good none → good got ≡ good_by (role_among s) (parts_of s start end)
+    role_seek_over e = ap good (last_found got) ∙ (rw e at later.2)
 
     -- a fault in the parts refuses the role
     pub role_seek_refused : (q : Refusal) → next_part_of s i end ≡ bad q → bad q ≡ good_by (role_among s) (parts_of s start end)
     role_seek_refused q e = rw e at later.2
 
     -- after a part that is read the reading goes on behind it, with the role found before or else that part's
-    pub role_seek_goes : (p : HeaderSpan) → next_part_of s i end ≡ good (some (header_row_of p)) → RoleSeeking s start end (p.args.end + 1) (kept_role got (role_after (kind_at s (header_row_of p))))
+    pub role_seek_goes : (p : HeaderSpan) → next_part_of s i end ≡ good (some (header_row_of p)) → RoleSeeking s start end (p.args.end + 1) (role_or got (role_by (kind_at s (header_row_of p))))
     role_seek_goes p e =
         let (n, c, g) = later in
         let (a, b, d, h) = next_ahead s i end (header_row_of p) e in
@@ -168,16 +144,15 @@ module _ (s : List ℕ) (start end : ℕ) where
           steps = n;
           enough = omega arith;
           inside = omega arith;
-          fine = fine_more got (kind_at s (header_row_of p)) f.fine;
           gives = by (kind_is a b) (parts_from n s (p.args.end + 1) end) ∙ (rw e at g);
         }
       where
         kind_is : (header_row_of p).key_start ≤ (header_row_of p).key_end → (header_row_of p).key_end ≤ length s → kind_at s (header_row_of p) ≡ (unit_part_of s (header_row_of p)).kind
         kind_is a b = rw (le-leb (header_row_of p).key_start (header_row_of p).key_end a, le-leb (header_row_of p).key_end (length s) b) refl
 
-        by : kind_at s (header_row_of p) ≡ (unit_part_of s (header_row_of p)).kind → (x : Told (List HeaderRow)) → good_by (λ ps. option_by (role_among s ps) some (role_in (kept_role got (role_after (kind_at s (header_row_of p)))))) x
-            ≡ good_by (λ ps. option_by (role_among s ps) some (role_in got)) (part_before (header_row_of p) x)
-        by k (good ps) = ap good (more_found got (kind_at s (header_row_of p)) (role_among s ps) f.fine ∙ ap (λ (y : Kind). option_by (option_by (role_among s ps) some (role_by y)) some (role_in got)) k)
+        by : kind_at s (header_row_of p) ≡ (unit_part_of s (header_row_of p)).kind → (x : Told (List HeaderRow)) → good_by (λ ps. role_or (role_or got (role_by (kind_at s (header_row_of p)))) (role_among s ps)) x
+            ≡ good_by (λ ps. role_or got (role_among s ps)) (part_before (header_row_of p) x)
+        by k (good ps) = ap good (more_found got (role_by (kind_at s (header_row_of p))) (role_among s ps) ∙ ap (λ (y : Kind). role_or got (role_or (role_by y) (role_among s ps))) k)
         by k (bad q) = refl
 
 -- ---- records
@@ -187,7 +162,7 @@ span_starts n a z h = let (f, g) = span_good n a z h in let (l, m) = bounds a z 
 
 module _ (s : List ℕ) (w : Row) {p : Lookup.FileSpan} (given : good p ≡ span_in (length s) w.arg_start w.arg_end) where
   -- the role of a simple record: "a simple record gives no factor there"
-  pub role_simple : eqb w.complex 1 ≡ false → good none ≡ onward role_of (seen_record_of s w)
+  pub role_simple : eqb w.complex 1 ≡ false → good None ≡ onward role_of (seen_record_of s w)
   role_simple e = let (f, g) = span_good (length s) w.arg_start w.arg_end given in rw (f, e) refl
 
   -- a complex record's role, by its parts
@@ -207,18 +182,22 @@ module _ (s : List ℕ) where
   context_is (bad q) h = ap (good_by (reads_integer s)) h
 
   -- whether a record is a context, by whether its first parameter reads
-  pub whole_reads : (a z : ℕ) {x : Read ℤ} → x ≡ Scalars.next_of whole_of s a z → good (is_read x.answer) ≡ good_by (reads_integer s) (good (some (span a z)))
-  whole_reads a z h = ap (λ (y : Read ℤ). good (is_read y.answer)) h
+  pub whole_reads : (a z : ℕ) (o : State) → o ≡ record { place = a; end = z } → (r : Result ℤ Fault) (t : State) (b : Bool) → told_read r t ≡ Scalars.next_of whole_of s o.place o.end → b ≡ is_ok r → good b ≡ good_by (reads_integer s) (good (Some (span a z)))
+  whole_reads a z o e r t b h k = ap good (k ∙ same r) ∙ ap (λ (y : Read ℤ). good (is_read y.answer)) h ∙ ap (λ (v : State). good (is_read (Scalars.next_of whole_of s v.place v.end).answer)) e
+    where
+      same : (r : Result ℤ Fault) → is_ok r ≡ is_read (told_read r t).answer
+      same (Ok z) = refl
+      same (Err f) = refl
 
 -- ---- listed units
 module _ (s : List ℕ) (find : ℕ → Told (Option SeenRecord)) (u : Units) where
   -- a listed unit whose id no record has changes nothing
-  pub unit_missing : (i : ℕ) → find i ≡ good none → good u ≡ unit_by s find u i
+  pub unit_missing : (i : ℕ) → find i ≡ good None → good u ≡ unit_by s find u i
   unfolding unit_by
   unit_missing i h = rw h refl
 
   -- a listed unit by the record that has its id
-  pub unit_row : (i : ℕ) (t : Told SeenRecord) {x : Told Units} → find i ≡ good_by some t → x ≡ onward (unit_of s find u) t → x ≡ unit_by s find u i
+  pub unit_row : (i : ℕ) (t : Told SeenRecord) {x : Told Units} → find i ≡ good_by Some t → x ≡ onward (unit_of s find u) t → x ≡ unit_by s find u i
   unfolding unit_by
   unit_row i (good t) h e = rw h e
   unit_row i (bad r) h e = rw h e
@@ -229,22 +208,22 @@ module _ (s : List ℕ) (find : ℕ → Told (Option SeenRecord)) (u : Units) wh
   role_refused (bad r) h = same_bad h
 
   -- a listed unit that has none of the roles changes nothing
-  pub role_none : (t : Told SeenRecord) → good none ≡ onward role_of t → good u ≡ onward (unit_of s find u) t
+  pub role_none : (t : Told SeenRecord) → good None ≡ onward role_of t → good u ≡ onward (unit_of s find u) t
   role_none (good t) h = rw (← h) refl
   role_none (bad r) h = clash (cc)
 
   -- a listed unit of solid angle changes nothing
-  pub role_solid : (t : Told SeenRecord) → good (some solid_role) ≡ onward role_of t → good u ≡ onward (unit_of s find u) t
+  pub role_solid : (t : Told SeenRecord) → good (Some solid_role) ≡ onward role_of t → good u ≡ onward (unit_of s find u) t
   role_solid (good t) h = rw (← h) refl
   role_solid (bad r) h = clash (cc)
 
   -- a listed unit of length sets the length by its factor
-  pub role_length : (t : Told SeenRecord) {x : Told Units} {y : Told (Option ℕ)} → good (some length_role) ≡ onward role_of t → x ≡ good_by (with_length u) y → y ≡ onward (length_of s find 16) t → x ≡ onward (unit_of s find u) t
+  pub role_length : (t : Told SeenRecord) {x : Told Units} {y : Told (Option ℕ)} → good (Some length_role) ≡ onward role_of t → x ≡ good_by (with_length u) y → y ≡ onward (length_of s find 16) t → x ≡ onward (unit_of s find u) t
   role_length (good t) h e k = rw (← h) (e ∙ ap (good_by (with_length u)) k)
   role_length (bad r) h e k = clash (cc)
 
   -- a listed unit of angle sets the angle by its factor
-  pub role_angle : (t : Told SeenRecord) {x : Told Units} {y : Told (Option ℕ)} → good (some angle_role) ≡ onward role_of t → x ≡ good_by (with_angle u) y → y ≡ onward (angle_of s find) t → x ≡ onward (unit_of s find u) t
+  pub role_angle : (t : Told SeenRecord) {x : Told Units} {y : Told (Option ℕ)} → good (Some angle_role) ≡ onward role_of t → x ≡ good_by (with_angle u) y → y ≡ onward (angle_of s find) t → x ≡ onward (unit_of s find u) t
   role_angle (good t) h e k = rw (← h) (e ∙ ap (good_by (with_angle u)) k)
   role_angle (bad r) h e k = clash (cc)
 
@@ -266,27 +245,31 @@ module _ (s : List ℕ) (find : ℕ → Told (Option SeenRecord)) (u : Units) wh
 -- ---- listed uncertainties
 module _ (s : List ℕ) (find : ℕ → Told (Option SeenRecord)) where
   -- a listed uncertainty whose id no record has is none
-  pub uncertain_missing : (i : ℕ) → find i ≡ good none → good none ≡ uncertainty_by s find i
+  pub uncertain_missing : (i : ℕ) → find i ≡ good None → good None ≡ uncertainty_by s find i
   unfolding uncertainty_by
   uncertain_missing i h = rw h refl
 
   -- a listed uncertainty by the record that has its id
-  pub uncertain_row : (i : ℕ) (t : Told SeenRecord) {x : Told (Option ℕ)} → find i ≡ good_by some t → x ≡ onward (uncertainty_of s) t → x ≡ uncertainty_by s find i
+  pub uncertain_row : (i : ℕ) (t : Told SeenRecord) {x : Told (Option ℕ)} → find i ≡ good_by Some t → x ≡ onward (uncertainty_of s) t → x ≡ uncertainty_by s find i
   unfolding uncertainty_by
   uncertain_row i (good t) h e = rw h e
   uncertain_row i (bad r) h e = rw h e
 
   module _ (w : Row) {p : Lookup.FileSpan} (given : good p ≡ span_in (length s) w.arg_start w.arg_end) where
     -- a listed uncertainty whose record is of another kind is none
-    pub uncertain_other : same_kind (kind_in s w) UncertaintyMeasureWithUnit ≡ false → good none ≡ onward (uncertainty_of s) (seen_record_of s w)
+    pub uncertain_other : same_kind (kind_in s w) UncertaintyMeasureWithUnit ≡ false → good None ≡ onward (uncertainty_of s) (seen_record_of s w)
     uncertain_other e = let (f, g) = span_good (length s) w.arg_start w.arg_end given in rw (f, e) refl
 
     -- a listed uncertainty whose record is of the kind, by its measure
-    pub uncertain_own : {x : Told (Option ℕ)} {y : Read ℕ} → same_kind (kind_in s w) UncertaintyMeasureWithUnit ≡ true → x ≡ uncertain_by y.answer → y ≡ Scalars.next_of measure_of s p.start p.end → x ≡ onward (uncertainty_of s) (seen_record_of s w)
-    uncertain_own e h k = let (f, g) = span_good (length s) w.arg_start w.arg_end given in rw (f, e) (h ∙ ap (λ (y : Read ℕ). uncertain_by y.answer) (rw g at k))
+    pub uncertain_own : same_kind (kind_in s w) UncertaintyMeasureWithUnit ≡ true → number_or_none (Scalars.next_of measure_of s p.start p.end).answer ≡ onward (uncertainty_of s) (seen_record_of s w)
+    uncertain_own e = let (f, g) = span_good (length s) w.arg_start w.arg_end given in rw (f, g, e) (own (Scalars.next_of measure_of s w.arg_start w.arg_end).answer)
+      where
+        own : (x : Told ℕ) → number_or_none x ≡ uncertain_by x
+        own (good v) = refl
+        own (bad q) = refl
 
   -- the tolerance is a listed uncertainty: "the first [..] that reads"
-  pub tolerance_is : (i : ℕ) (l : List ℕ) {v : ℕ} → good (some v) ≡ uncertainty_by s find i → good v ≡ tolerance_by s find (i ∷ l)
+  pub tolerance_is : (i : ℕ) (l : List ℕ) {v : ℕ} → good (Some v) ≡ uncertainty_by s find i → good v ≡ tolerance_by s find (i ∷ l)
   unfolding tolerance_by
   tolerance_is i l h = rw (← h) refl
 
@@ -296,12 +279,12 @@ module _ (s : List ℕ) (find : ℕ → Told (Option SeenRecord)) where
   tolerance_bad i l h = rw (← h) refl
 
   -- after a listed uncertainty that is none the next one is asked
-  pub tolerance_more : (i : ℕ) → good none ≡ uncertainty_by s find i → (l : List ℕ) → tolerance_by s find l ≡ tolerance_by s find (i ∷ l)
+  pub tolerance_more : (i : ℕ) → good None ≡ uncertainty_by s find i → (l : List ℕ) → tolerance_by s find l ≡ tolerance_by s find (i ∷ l)
   unfolding tolerance_by
   tolerance_more i h l = rw (← h) refl
 
   -- where the last listed uncertainty is none: "else 1e-3"
-  pub tolerance_last : (i : ℕ) → good none ≡ uncertainty_by s find i → good (near 1 1000) ≡ tolerance_by s find (i ∷ [])
+  pub tolerance_last : (i : ℕ) → good None ≡ uncertainty_by s find i → good (near 1 1000) ≡ tolerance_by s find (i ∷ [])
   unfolding tolerance_by
   tolerance_last i h = rw (← h) refl
 
@@ -375,28 +358,28 @@ abbrev pub refer : List ℕ → Fate ℕ
 refer u = as_fate (reference_of u)
 
 -- without arguments there are no references
-pub refs_none : (s : List ℕ) → refs_in s none ≡ good []
+pub refs_none : (s : List ℕ) → refs_in s None ≡ good []
 unfolding refs_in
 refs_none s = refl
 
 module _ (s : List ℕ) (a z : ℕ) where
   -- where no parameter can be cut the references are refused
-  pub refs_uncut : {q : Refusal} {p e : ℕ} → reading (bad q) p e ≡ param_of s a z → refs_in s (some (span a z)) ≡ bad q
+  pub refs_uncut : {q : Refusal} {p e : ℕ} → reading (bad q) p e ≡ param_of s a z → refs_in s (Some (span a z)) ≡ bad q
   unfolding refs_in next_by
   refs_uncut h = rw (← h) refl
 
   module _ (x y p e : ℕ) (given : reading (good (span x y)) p e ≡ param_of s a z) where
     -- the references are those of the parameter's text
-    refs_cut : refs_in s (some (span a z)) ≡ roomed (λ vs. true) x (list_by refer (bytes_between s x y))
+    refs_cut : refs_in s (Some (span a z)) ≡ roomed (λ vs. true) x (list_by refer (bytes_between s x y))
     unfolding refs_in next_by
     refs_cut = rw (← given) refl
 
     -- a list of references that does not read is refused
-    pub refs_bad : {n o : ℕ} → faulty n o ≡ fated length (list_by (λ u. mute (refer u)) (bytes_between s x y)) → refs_in s (some (span a z)) ≡ bad (refusal n 0 (x + o))
+    pub refs_bad : {n o : ℕ} → faulty n o ≡ fated length (list_by (λ u. mute (refer u)) (bytes_between s x y)) → refs_in s (Some (span a z)) ≡ bad (refusal n 0 (x + o))
     refs_bad h = refs_cut ∙ ap (roomed (λ vs. true) x) (count_bad (list_by refer (bytes_between s x y)) (h ∙ count_mute refer (bytes_between s x y)))
 
     -- a list of references without items gives none
-    pub refs_empty : {n : ℕ} → fine n ≡ fated length (list_by (λ u. mute (refer u)) (bytes_between s x y)) → n ≡ 0 → refs_in s (some (span a z)) ≡ good []
+    pub refs_empty : {n : ℕ} → fine n ≡ fated length (list_by (λ u. mute (refer u)) (bytes_between s x y)) → n ≡ 0 → refs_in s (Some (span a z)) ≡ good []
     refs_empty {n} h k =
         let (vs, f, l) = count_fine (list_by refer (bytes_between s x y)) (h ∙ count_mute refer (bytes_between s x y)) in
         refs_cut ∙ ap (roomed (λ vs. true) x) (f ∙ ap fine (nothing vs (sym l ∙ k)))
@@ -407,7 +390,7 @@ module _ (s : List ℕ) (a z : ℕ) where
 
     -- a list of references with items gives those of its inside
     pub refs_full : {n : ℕ} → x ≤ y → y ≤ length s → fine n ≡ fated length (list_by (λ u. mute (refer u)) (bytes_between s x y)) → (n ≡ 0 → ⊥)
-        → (2 ≤ y - x) × (ReadsAll (bytes_between s (x + 1) (y - 1)) × (refs_in s (some (span a z)) ≡ good (ids_of (bytes_between s (x + 1) (y - 1)))))
+        → (2 ≤ y - x) × (ReadsAll (bytes_between s (x + 1) (y - 1)) × (refs_in s (Some (span a z)) ≡ good (ids_of (bytes_between s (x + 1) (y - 1)))))
     refs_full {n} o r h k =
         let (vs, f, l) = count_fine (list_by refer (bytes_between s x y)) (h ∙ count_mute refer (bytes_between s x y)) in
         let (m, q) = full_list refer (bytes_between s x y) vs f (λ j. k (l ∙ j)) in
@@ -471,17 +454,14 @@ module _ {A : Type 0} (b : List ℕ) (left : List ℕ → Told A) (all : Told A)
           gives = g (drop (f.passed + 1) (ids_of b)) ∙ ap left (sym q) ∙ f.gives;
         }
 
--- where the code refuses the references they are refused so
-pub refs_refused : (s : List ℕ) (x : Told (List ℕ)) (r : Refs) (f : Fault) → RefsTo s x r → r ≡ refs.Refused f → x ≡ bad (told f)
-refs_refused s x r f h e = subst (RefsTo s x) e h
-
 -- where the code finds no references there are none
-pub refs_nothing : (s : List ℕ) (x : Told (List ℕ)) (r : Refs) → RefsTo s x r → r ≡ refs.Nothing → x ≡ good []
-refs_nothing s x r h e = subst (RefsTo s x) e h
+pub refs_nothing : (s : List ℕ) (x : Told (List ℕ)) (o : Option Range) → RefsTo s x (Ok o) → o ≡ None → x ≡ good []
+refs_nothing s x o h e = subst (λ (p : Option Range). RefsTo s x (Ok p)) e h
 
 -- where the code gives a list's inside the references are those in it
-pub refs_inside : (s : List ℕ) (x : Told (List ℕ)) (r : Refs) (a z : ℕ) → RefsTo s x r → r ≡ refs.Inside a z → (a ≤ z) × ((z ≤ length s) × (ReadsAll (bytes_between s a z) × (x ≡ good (ids_of (bytes_between s a z)))))
-refs_inside s x r a z h e = subst (RefsTo s x) e h
+pub refs_inside : (s : List ℕ) (x : Told (List ℕ)) (o : Option Range) (r : Range) → RefsTo s x (Ok o) → o ≡ Some r
+    → (r.start ≤ r.end) × ((r.end ≤ length s) × (ReadsAll (bytes_between s r.start r.end) × (x ≡ good (ids_of (bytes_between s r.start r.end)))))
+refs_inside s x o r h e = subst (λ (p : Option Range). RefsTo s x (Ok p)) e h
 
 -- ---- contexts, by their lists
 module _ (s : List ℕ) (find : ℕ → Told (Option SeenRecord)) where
@@ -496,16 +476,16 @@ module _ (s : List ℕ) (find : ℕ → Told (Option SeenRecord)) where
   tolerance_none = refl
 
   -- the units that a context lists, by its arguments
-  pub listed_units_is : (x : Told SeenRecord) {y : Told (Option Span)} → y ≡ onward (self_or GlobalUnitAssignedContext) x → onward (units_by s find defaults) (onward (refs_in s) y) ≡ onward (listed_units s find) x
+  pub listed_units_is : (x : Told SeenRecord) → onward (units_by s find defaults) (onward (refs_in s) (onward (self_or GlobalUnitAssignedContext) x)) ≡ onward (listed_units s find) x
   unfolding listed_units
-  listed_units_is (good t) h = ap (λ (y : Told (Option Span)). onward (units_by s find defaults) (onward (refs_in s) y)) h
-  listed_units_is (bad q) h = ap (λ (y : Told (Option Span)). onward (units_by s find defaults) (onward (refs_in s) y)) h
+  listed_units_is (good t) = refl
+  listed_units_is (bad q) = refl
 
   -- the tolerance that a context lists, by its arguments
-  pub listed_tolerance_is : (x : Told SeenRecord) {y : Told (Option Span)} → y ≡ onward (self_or GlobalUncertaintyAssignedContext) x → onward (tolerance_by s find) (onward (refs_in s) y) ≡ onward (listed_tolerance s find) x
+  pub listed_tolerance_is : (x : Told SeenRecord) → onward (tolerance_by s find) (onward (refs_in s) (onward (self_or GlobalUncertaintyAssignedContext) x)) ≡ onward (listed_tolerance s find) x
   unfolding listed_tolerance
-  listed_tolerance_is (good t) h = ap (λ (y : Told (Option Span)). onward (tolerance_by s find) (onward (refs_in s) y)) h
-  listed_tolerance_is (bad q) h = ap (λ (y : Told (Option Span)). onward (tolerance_by s find) (onward (refs_in s) y)) h
+  listed_tolerance_is (good t) = refl
+  listed_tolerance_is (bad q) = refl
 
   -- a context whose listed units are refused is refused
   pub context_refused : (x : Told SeenRecord) {q : Refusal} → bad q ≡ onward (listed_units s find) x → bad q ≡ onward (context_of s find) x
@@ -582,16 +562,16 @@ module _ (s : List ℕ) (find : ℕ → Told (Option SeenRecord)) where
     }
 
     -- a row that was given is one of the table
-    pub row_there : (k : ℕ) {w : Row} → some w ≡ row_in rows records k → (k < table_rows rows records) × (row_numbers rows k ≡ w)
+    pub row_there : (k : ℕ) {w : Row} → Some w ≡ row_in rows records k → (k < table_rows rows records) × (row_numbers rows k ≡ w)
     row_there k {w} h = go (ltb k (table_rows rows records)) refl h
       where
-        go : (b : Bool) → ltb k (table_rows rows records) ≡ b → some w ≡ pick b (some (row_numbers rows k)) none → (k < table_rows rows records) × (row_numbers rows k ≡ w)
+        go : (b : Bool) → ltb k (table_rows rows records) ≡ b → Some w ≡ pick b (Some (row_numbers rows k)) None → (k < table_rows rows records) × (row_numbers rows k ≡ w)
         go true e f = (ltb-true k (table_rows rows records) e, cc)
         go false e f = clash (cc)
 
     module _ (k : ℕ) (f : Resolving k) where
       -- where no row is left, the default values are the answer
-      pub resolve_over : none ≡ row_in rows records k → good defaults ≡ resolve_of s find (seen_records_from s (row_numbers rows) (table_rows rows records) 0)
+      pub resolve_over : None ≡ row_in rows records k → good defaults ≡ resolve_of s find (seen_records_from s (row_numbers rows) (table_rows rows records) 0)
       unfolding resolve_of seen_records_from
       resolve_over h = go (table_rows rows records - k) refl f.gives
         where
@@ -599,7 +579,7 @@ module _ (s : List ℕ) (find : ℕ → Told (Option SeenRecord)) where
           go zero e g = g
           go (suc n) e g = let l = lt-ltb k (table_rows rows records) (omega (arith, e)) in clash (cc (rw l at h))
 
-      module _ {w : Row} (row : some w ≡ row_in rows records k) where
+      module _ {w : Row} (row : Some w ≡ row_in rows records k) where
         -- the answer is the one by the record of row k and those after it
         step : onward (context_or_later s find (λ u. resolve_of s find (seen_records_from s (row_numbers rows) (table_rows rows records - (k + 1)) (k + 1)))) (seen_record_of s w) ≡ resolve_of s find (seen_records_from s (row_numbers rows) (table_rows rows records) 0)
         unfolding resolve_of seen_records_from

@@ -1,10 +1,9 @@
 -- "with a place from 0 to the input's length" (demand 1), for the unit answer: every refusal lies in the file, whatever the lent tables
 -- hold. Assumes nothing.
 use Prim.Native.Nat.{ℕ, zero, suc, ◌≤◌}
-use Rattle.std.specs.Prelude.{◌≡◌, refl, Bool, eqb, length}
+use Rattle.std.specs.Prelude.{◌≡◌, refl, Bool, eqb, length, Option, Some, None}
 use Rattle.std.proofs.Math.Bool.{true, false}
 use mathlib.Core.List.{List, [], ◌∷◌}
-use Rattle.std.proofs.Math.Option.{Option, none, some}
 use Rattle.common.specs.Pick.{pick}
 use Rattle.error.specs.Refusal.{Refusal, Told, good, bad}
 use Rattle.table.specs.Table.{row_numbers}
@@ -34,8 +33,8 @@ use Rattle.units.specs.Code.{seen_records_from}
 -- what refuses a list of references lies in the file
 refs_placed : (s : List ℕ) (x : Option Span) → PlacedIn (length s) (refs_in s x)
 unfolding refs_in
-refs_placed s none = tt
-refs_placed s (some r) = go (next_by (list_of reference_of) (λ vs. true) s r.start r.stop).answer refl
+refs_placed s None = tt
+refs_placed s (Some r) = go (next_by (list_of reference_of) (λ vs. true) s r.start r.stop).answer refl
   where
     go : (x : Told (List ℕ)) → (next_by (list_of reference_of) (λ vs. true) s r.start r.stop).answer ≡ x → PlacedIn (length s) x
     go (good vs) e = tt
@@ -51,7 +50,7 @@ uncertain_placed : (n : ℕ) (x : Told ℕ) → PlacedIn n x → PlacedIn n (unc
 uncertain_placed n (good v) h = tt
 uncertain_placed n (bad q) h = go (eqb q.number 13)
   where
-    go : (b : Bool) → PlacedIn {A = Option ℕ} n (pick b (bad q) (good none))
+    go : (b : Bool) → PlacedIn {A = Option ℕ} n (pick b (bad q) (good None))
     go true = h
     go false = tt
 
@@ -62,15 +61,15 @@ module _ (s : List ℕ) (find : ℕ → Told (Option SeenRecord)) (finds : (i : 
   found_placed other f i o k = on_placed (length s) (FoundIn (length s)) (option_by other f) (find i) (finds i) go
     where
       go : (x : Option SeenRecord) → FoundIn (length s) x → PlacedIn (length s) (option_by other f x)
-      go none h = o
-      go (some t) h = k t h
+      go None h = o
+      go (Some t) h = k t h
 
   -- what refuses a unit by its role lies in the file
   role_placed : (u : Units) (t : SeenRecord) → SeenRecordIn (length s) t → (r : Option Role) → PlacedIn (length s) (by_role s find u t r)
-  role_placed u t h none = tt
-  role_placed u t h (some length_role) = by_placed (length s) (with_length u) (length_of s find 16 t) (length_in s find finds 16 t h)
-  role_placed u t h (some angle_role) = by_placed (length s) (with_angle u) (angle_of s find t) (angle_in s find finds t h)
-  role_placed u t h (some solid_role) = tt
+  role_placed u t h None = tt
+  role_placed u t h (Some length_role) = by_placed (length s) (with_length u) (length_of s find 16 t) (length_in s find finds 16 t h)
+  role_placed u t h (Some angle_role) = by_placed (length s) (with_angle u) (angle_of s find t) (angle_in s find finds t h)
+  role_placed u t h (Some solid_role) = tt
 
   -- what refuses a unit by its id lies in the file
   unit_placed : (u : Units) (i : ℕ) → PlacedIn (length s) (unit_by s find u i)
@@ -88,9 +87,9 @@ module _ (s : List ℕ) (find : ℕ → Told (Option SeenRecord)) (finds : (i : 
   -- what refuses a listed uncertainty lies in the file
   uncertainty_placed : (i : ℕ) → PlacedIn (length s) (uncertainty_by s find i)
   unfolding uncertainty_by
-  uncertainty_placed i = found_placed (good none) (uncertainty_of s) i tt (λ t h. go t (same_kind t.kind UncertaintyMeasureWithUnit))
+  uncertainty_placed i = found_placed (good None) (uncertainty_of s) i tt (λ t h. go t (same_kind t.kind UncertaintyMeasureWithUnit))
     where
-      go : (t : SeenRecord) (b : Bool) → PlacedIn (length s) (pick b (uncertain_by (next_of measure_of s t.run.start t.run.stop).answer) (good none))
+      go : (t : SeenRecord) (b : Bool) → PlacedIn (length s) (pick b (uncertain_by (next_of measure_of s t.run.start t.run.stop).answer) (good None))
       go t true = uncertain_placed (length s) (next_of measure_of s t.run.start t.run.stop).answer (scalar_next_placed measure_of s t.run.start t.run.stop)
       go t false = tt
 

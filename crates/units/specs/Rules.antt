@@ -4,8 +4,7 @@
 -- answer.
 -- Assumes nothing.
 -- Definitions to be believed: no law, and nothing computed that no theorem ties (docs/BELIEVE.md).
-use Rattle.std.specs.Prelude.{ℕ, ◌≡◌, Bool, true, false, List}
-use Rattle.std.proofs.Math.Option.{Option, none, some}
+use Rattle.std.specs.Prelude.{ℕ, ◌≡◌, Bool, true, false, List, Option, Some, None}
 use Rattle.error.specs.Refusal.{Refusal, Told, good, bad}
 use Rattle.nearest.specs.Near.{near}
 use Rattle.kinds.specs.declared.Kind.{Kind}
@@ -22,9 +21,9 @@ use Rattle.units.specs.Units.{role_of}
 -- "the role is a complex record's first part of LENGTH_UNIT, PLANE_ANGLE_UNIT and SOLID_ANGLE_UNIT": over the record's parts
 pub data RoleForm (ps : List UnitPart) : Option Role → Type 0 where
   -- the first part that is a length, plane angle or solid angle unit gives the role
-  part : {r : Role} → IsFirst (λ p. role_by p.kind ≡ none) (λ p r. role_by p.kind ≡ some r) ps r → RoleForm ps (some r)
+  part : {r : Role} → IsFirst (λ p. role_by p.kind ≡ None) (λ p r. role_by p.kind ≡ Some r) ps r → RoleForm ps (Some r)
   -- no part is a length, plane angle or solid angle unit; "a simple record gives no factor there": it has no parts
-  roleless : Each (λ p. role_by p.kind ≡ none) ps → RoleForm ps none
+  roleless : Each (λ p. role_by p.kind ≡ None) ps → RoleForm ps None
 
 -- ---- the units of a list
 -- what one listed unit gives: a length factor, an angle factor, or neither
@@ -35,27 +34,27 @@ pub data ListedFactor : Type 0 where
 
 -- the length factor that a listed unit gave, if it was one
 abbrev pub length_given : Told ListedFactor → Option ℕ
-length_given (good (a_length f)) = some f
-length_given (good (an_angle f)) = none
-length_given (good nothing) = none
-length_given (bad q) = none
+length_given (good (a_length f)) = Some f
+length_given (good (an_angle f)) = None
+length_given (good nothing) = None
+length_given (bad q) = None
 
 -- the angle factor that a listed unit gave, if it was one
 abbrev pub angle_given : Told ListedFactor → Option ℕ
-angle_given (good (a_length f)) = none
-angle_given (good (an_angle f)) = some f
-angle_given (good nothing) = none
-angle_given (bad q) = none
+angle_given (good (a_length f)) = None
+angle_given (good (an_angle f)) = Some f
+angle_given (good nothing) = None
+angle_given (bad q) = None
 
 -- a factor, or "(1.0 without one)"
 abbrev pub or_one : Option ℕ → ℕ
-or_one (some f) = f
-or_one none = near 1 1
+or_one (Some f) = f
+or_one None = near 1 1
 
 -- whether there is a length factor: "unresolved" without one
 abbrev pub is_given : Option ℕ → Bool
-is_given (some f) = true
-is_given none = false
+is_given (Some f) = true
+is_given None = false
 
 -- the units of a list, by its length factor and its angle factor; the tolerance is not yet looked for
 abbrev pub units_with : Option ℕ → Option ℕ → Units
@@ -68,10 +67,10 @@ list_in s k t = onward (refs_in s) (self_or k t)
 module _ (s : List ℕ) (find : ℕ → Told (Option SeenRecord)) where
   -- "In a unit list the role is ..": what a listed record gives in that role; a solid angle, or no role, gives neither factor
   abbrev pub given_as : SeenRecord → Option Role → Told ListedFactor
-  given_as t (some length_role) = good_by (option_by nothing a_length) (length_of s find 16 t)
-  given_as t (some angle_role) = good_by (option_by nothing an_angle) (angle_of s find t)
-  given_as t (some solid_role) = good nothing
-  given_as t none = good nothing
+  given_as t (Some length_role) = good_by (option_by nothing a_length) (length_of s find 16 t)
+  given_as t (Some angle_role) = good_by (option_by nothing an_angle) (angle_of s find t)
+  given_as t (Some solid_role) = good nothing
+  given_as t None = good nothing
 
   -- what the record of an id gives; "a missing record [..] gives no factor"
   unfoldable pub given_by : ℕ → Told ListedFactor
@@ -94,16 +93,16 @@ module _ (s : List ℕ) (find : ℕ → Told (Option SeenRecord)) where
   -- a listed uncertainty that ends the search: one that reads, or one that refuses
   pub data Settles (i : ℕ) : Told ℕ → Type 0 where
     -- a "simple UNCERTAINTY_MEASURE_WITH_UNIT that reads"
-    reads : {v : ℕ} → uncertainty_by s find i ≡ good (some v) → Settles i (good v)
+    reads : {v : ℕ} → uncertainty_by s find i ≡ good (Some v) → Settles i (good v)
     -- "13 inside units refuses the whole answer"
     refuses : {q : Refusal} → uncertainty_by s find i ≡ bad q → Settles i (bad q)
 
   -- "Tolerance": over the listed ids
   pub data ToleranceForm (is : List ℕ) : Told ℕ → Type 0 where
     -- "the first listed simple UNCERTAINTY_MEASURE_WITH_UNIT that reads"
-    listed : {a : Told ℕ} → IsFirst (λ i. uncertainty_by s find i ≡ good none) Settles is a → ToleranceForm is a
+    listed : {a : Told ℕ} → IsFirst (λ i. uncertainty_by s find i ≡ good None) Settles is a → ToleranceForm is a
     -- no listed uncertainty reads: "else 1e-3"
-    assumed : Each (λ i. uncertainty_by s find i ≡ good none) is → ToleranceForm is (good (near 1 1000))
+    assumed : Each (λ i. uncertainty_by s find i ≡ good None) is → ToleranceForm is (good (near 1 1000))
 
   -- ---- a context
   -- the units that a record declares: as the Rust has it, "units before uncertainties whatever their order" (open points)

@@ -1,10 +1,9 @@
 -- Rules.antt and what Units.antt computes are one: the answer that is computed is so, and nothing else is. Assumes nothing.
-use Rattle.std.specs.Prelude.{ℕ, ◌≡◌, ◌⊎◌, Bool, true, false}
+use Rattle.std.specs.Prelude.{ℕ, ◌≡◌, ◌⊎◌, Bool, true, false, Option, Some, None}
 use Rattle.std.proofs.Math.Path.{refl, ap}
 use Rattle.std.proofs.Common.{sym, ◌∙◌}
 use Rattle.std.proofs.Math.Logic.{inl, inr}
 use mathlib.Core.List.{List, [], ◌∷◌, ◌++◌}
-use Rattle.std.proofs.Math.Option.{Option, none, some}
 use Rattle.error.specs.Refusal.{Refusal, Told, good, bad}
 use Rattle.record.specs.FormRight.Parts.{sole}
 use Rattle.kinds.specs.declared.Kind.TheVariants.{GlobalUnitAssignedContext, GlobalUncertaintyAssignedContext}
@@ -21,29 +20,29 @@ use Rattle.units.specs.Rules.{RoleForm, ListedFactor, a_length, an_angle, nothin
 
 -- ---- the role of a listed unit
 -- a part in front that gives no role changes nothing
-role_on : (p : UnitPart) (ps : List UnitPart) → role_by p.kind ≡ none → first_role ps ≡ first_role (p ∷ ps)
+role_on : (p : UnitPart) (ps : List UnitPart) → role_by p.kind ≡ None → first_role ps ≡ first_role (p ∷ ps)
 role_on p ps e = rw e refl
 
 -- a part in front that gives a role decides
-role_here : (p : UnitPart) (ps : List UnitPart) (r : Role) → role_by p.kind ≡ some r → some r ≡ first_role (p ∷ ps)
+role_here : (p : UnitPart) (ps : List UnitPart) (r : Role) → role_by p.kind ≡ Some r → Some r ≡ first_role (p ∷ ps)
 role_here p ps r e = rw e refl
 
 -- the role by the rules is the one that is computed
 pub role_form_only : {ps : List UnitPart} {o : Option Role} → RoleForm ps o → o ≡ first_role ps
-role_form_only {ps} (RoleForm.part {r} h) = first_decides (λ p. role_by p.kind ≡ none) (λ p r. role_by p.kind ≡ some r) some first_role role_on role_here ps r h
-role_form_only {ps} (RoleForm.roleless h) = first_never (λ p. role_by p.kind ≡ none) (λ p r. role_by p.kind ≡ some r) some first_role role_on role_here ps h
+role_form_only {ps} (RoleForm.part {r} h) = first_decides (λ p. role_by p.kind ≡ None) (λ p r. role_by p.kind ≡ Some r) Some first_role role_on role_here ps r h
+role_form_only {ps} (RoleForm.roleless h) = first_never (λ p. role_by p.kind ≡ None) (λ p r. role_by p.kind ≡ Some r) Some first_role role_on role_here ps h
 
 -- the role that is computed is the one by the rules
 pub role_form_is : (ps : List UnitPart) → RoleForm ps (first_role ps)
-role_form_is ps = sole (RoleForm ps) (λ o. role_form_only) (go (first_comes (λ p. role_by p.kind ≡ none) (λ p r. role_by p.kind ≡ some r) (λ p. by (role_by p.kind)) ps))
+role_form_is ps = sole (RoleForm ps) (λ o. role_form_only) (go (first_comes (λ p. role_by p.kind ≡ None) (λ p r. role_by p.kind ≡ Some r) (λ p. by (role_by p.kind)) ps))
   where
-    by : (o : Option Role) → (o ≡ none) ⊎ ((r : Role) × (o ≡ some r))
-    by none = inl refl
-    by (some r) = inr (r, refl)
+    by : (o : Option Role) → (o ≡ None) ⊎ ((r : Role) × (o ≡ Some r))
+    by None = inl refl
+    by (Some r) = inr (r, refl)
 
-    go : Each (λ p. role_by p.kind ≡ none) ps ⊎ ((r : Role) × IsFirst (λ p. role_by p.kind ≡ none) (λ p r. role_by p.kind ≡ some r) ps r) → (o : Option Role) × RoleForm ps o
-    go (inl h) = (none, RoleForm.roleless h)
-    go (inr (r, h)) = (some r, RoleForm.part h)
+    go : Each (λ p. role_by p.kind ≡ None) ps ⊎ ((r : Role) × IsFirst (λ p. role_by p.kind ≡ None) (λ p r. role_by p.kind ≡ Some r) ps r) → (o : Option Role) × RoleForm ps o
+    go (inl h) = (None, RoleForm.roleless h)
+    go (inr (r, h)) = (Some r, RoleForm.part h)
 
 -- the role of a record whose parts read is the one by the rules
 pub role_of_is : (t : SeenRecord) (ps : List UnitPart) → t.parts ≡ good ps → (o : Option Role) × (role_of t ≡ good o) × RoleForm ps o
@@ -52,44 +51,44 @@ role_of_is t ps e = (first_role ps, rw e refl, role_form_is ps)
 -- ---- the units of a list
 -- units with what one listed unit gives
 put : Units → ListedFactor → Units
-put u (a_length f) = with_length u (some f)
-put u (an_angle f) = with_angle u (some f)
+put u (a_length f) = with_length u (Some f)
+put u (an_angle f) = with_angle u (Some f)
 put u nothing = u
 
 -- what a length unit gives, put among a context's units, is `with_length`, with a factor or without
 put_length : (u : Units) (o : Option ℕ) → with_length u o ≡ put u (option_by nothing a_length o)
 unfolding put
-put_length u none = refl
-put_length u (some f) = refl
+put_length u None = refl
+put_length u (Some f) = refl
 
 -- what an angle unit gives, put among a context's units, is `with_angle`, with a factor or without
 put_angle : (u : Units) (o : Option ℕ) → with_angle u o ≡ put u (option_by nothing an_angle o)
 unfolding put
-put_angle u none = refl
-put_angle u (some f) = refl
+put_angle u None = refl
+put_angle u (Some f) = refl
 
 -- units with what one listed unit gives, and then with the last factors of those after it
 put_last : (u : Units) (g : ListedFactor) (l a : Option ℕ) → with_angle (with_length (put u g) l) a ≡ with_angle (with_length u (or_else l (length_given (good g)))) (or_else a (angle_given (good g)))
 unfolding put
-put_last u (a_length f) none none = refl
-put_last u (a_length f) none (some b) = refl
-put_last u (a_length f) (some m) none = refl
-put_last u (a_length f) (some m) (some b) = refl
-put_last u (an_angle f) none none = refl
-put_last u (an_angle f) none (some b) = refl
-put_last u (an_angle f) (some m) none = refl
-put_last u (an_angle f) (some m) (some b) = refl
-put_last u nothing none none = refl
-put_last u nothing none (some b) = refl
-put_last u nothing (some m) none = refl
-put_last u nothing (some m) (some b) = refl
+put_last u (a_length f) None None = refl
+put_last u (a_length f) None (Some b) = refl
+put_last u (a_length f) (Some m) None = refl
+put_last u (a_length f) (Some m) (Some b) = refl
+put_last u (an_angle f) None None = refl
+put_last u (an_angle f) None (Some b) = refl
+put_last u (an_angle f) (Some m) None = refl
+put_last u (an_angle f) (Some m) (Some b) = refl
+put_last u nothing None None = refl
+put_last u nothing None (Some b) = refl
+put_last u nothing (Some m) None = refl
+put_last u nothing (Some m) (Some b) = refl
 
 -- the last factors laid over the default values
 with_defaults : (l a : Option ℕ) → with_angle (with_length defaults l) a ≡ units_with l a
-with_defaults none none = refl
-with_defaults none (some b) = refl
-with_defaults (some m) none = refl
-with_defaults (some m) (some b) = refl
+with_defaults None None = refl
+with_defaults None (Some b) = refl
+with_defaults (Some m) None = refl
+with_defaults (Some m) (Some b) = refl
 
 module _ (s : List ℕ) (find : ℕ → Told (Option SeenRecord)) where
   -- one listed unit sets what it gives, or refuses
@@ -107,15 +106,15 @@ module _ (s : List ℕ) (find : ℕ → Told (Option SeenRecord)) where
 
       role : (t : SeenRecord) (r : Told (Option Role)) → onward (by_role s find u t) r ≡ good_by (put u) (onward (given_as s find t) r)
       role t (bad q) = refl
-      role t (good none) = refl
-      role t (good (some length_role)) = lengths (length_of s find 16 t)
-      role t (good (some angle_role)) = angles (angle_of s find t)
-      role t (good (some solid_role)) = refl
+      role t (good None) = refl
+      role t (good (Some length_role)) = lengths (length_of s find 16 t)
+      role t (good (Some angle_role)) = angles (angle_of s find t)
+      role t (good (Some solid_role)) = refl
 
       found : (x : Told (Option SeenRecord)) → onward (option_by (good u) (unit_of s find u)) x ≡ good_by (put u) (onward (option_by (good nothing) (λ t. onward (given_as s find t) (role_of t))) x)
       found (bad q) = refl
-      found (good none) = refl
-      found (good (some t)) = role t (role_of t)
+      found (good None) = refl
+      found (good (Some t)) = role t (role_of t)
 
   -- the length factor that an id gives, or none
   length_from : ℕ → Option ℕ
@@ -169,7 +168,7 @@ module _ (s : List ℕ) (find : ℕ → Told (Option SeenRecord)) where
 
   -- ---- the tolerance
   -- a listed uncertainty in front that is none changes nothing
-  tolerance_on : (i : ℕ) (is : List ℕ) → uncertainty_by s find i ≡ good none → tolerance_by s find is ≡ tolerance_by s find (i ∷ is)
+  tolerance_on : (i : ℕ) (is : List ℕ) → uncertainty_by s find i ≡ good None → tolerance_by s find is ≡ tolerance_by s find (i ∷ is)
   unfolding tolerance_by
   tolerance_on i is e = rw e refl
 
@@ -182,19 +181,19 @@ module _ (s : List ℕ) (find : ℕ → Told (Option SeenRecord)) where
   -- the tolerance by the rules is the one that is computed
   pub tolerance_form_only : {is : List ℕ} {a : Told ℕ} → ToleranceForm s find is a → a ≡ tolerance_by s find is
   unfolding tolerance_by
-  tolerance_form_only {is} {a} (ToleranceForm.listed h) = first_decides (λ i. uncertainty_by s find i ≡ good none) (Settles s find) (λ x. x) (tolerance_by s find) tolerance_on tolerance_here is a h
-  tolerance_form_only {is} (ToleranceForm.assumed h) = first_never (λ i. uncertainty_by s find i ≡ good none) (Settles s find) (λ x. x) (tolerance_by s find) tolerance_on tolerance_here is h
+  tolerance_form_only {is} {a} (ToleranceForm.listed h) = first_decides (λ i. uncertainty_by s find i ≡ good None) (Settles s find) (λ x. x) (tolerance_by s find) tolerance_on tolerance_here is a h
+  tolerance_form_only {is} (ToleranceForm.assumed h) = first_never (λ i. uncertainty_by s find i ≡ good None) (Settles s find) (λ x. x) (tolerance_by s find) tolerance_on tolerance_here is h
 
   -- the tolerance that is computed is the one by the rules
   pub tolerance_form_is : (is : List ℕ) → ToleranceForm s find is (tolerance_by s find is)
-  tolerance_form_is is = sole (ToleranceForm s find is) (λ a. tolerance_form_only) (go (first_comes (λ i. uncertainty_by s find i ≡ good none) (Settles s find) (λ i. by i (uncertainty_by s find i) refl) is))
+  tolerance_form_is is = sole (ToleranceForm s find is) (λ a. tolerance_form_only) (go (first_comes (λ i. uncertainty_by s find i ≡ good None) (Settles s find) (λ i. by i (uncertainty_by s find i) refl) is))
     where
-      by : (i : ℕ) (x : Told (Option ℕ)) → uncertainty_by s find i ≡ x → (uncertainty_by s find i ≡ good none) ⊎ ((a : Told ℕ) × Settles s find i a)
-      by i (good none) e = inl e
-      by i (good (some v)) e = inr (good v, Settles.reads e)
+      by : (i : ℕ) (x : Told (Option ℕ)) → uncertainty_by s find i ≡ x → (uncertainty_by s find i ≡ good None) ⊎ ((a : Told ℕ) × Settles s find i a)
+      by i (good None) e = inl e
+      by i (good (Some v)) e = inr (good v, Settles.reads e)
       by i (bad q) e = inr (bad q, Settles.refuses e)
 
-      go : Each (λ i. uncertainty_by s find i ≡ good none) is ⊎ ((a : Told ℕ) × IsFirst (λ i. uncertainty_by s find i ≡ good none) (Settles s find) is a) → (a : Told ℕ) × ToleranceForm s find is a
+      go : Each (λ i. uncertainty_by s find i ≡ good None) is ⊎ ((a : Told ℕ) × IsFirst (λ i. uncertainty_by s find i ≡ good None) (Settles s find) is a) → (a : Told ℕ) × ToleranceForm s find is a
       go (inl h) = (_, ToleranceForm.assumed h)
       go (inr (a, h)) = (a, ToleranceForm.listed h)
 

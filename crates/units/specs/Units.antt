@@ -1,7 +1,6 @@
 -- Document 01, 'Units': the unit answer of a file, over its records in file order and the lookup of ids. `find` gives the record of an
 -- id, or none. Factors are those of the crate factors. Assumes nothing.
-use Rattle.std.specs.Prelude.{ℕ, List, [], ◌∷◌}
-use Rattle.std.proofs.Math.Option.{Option, none, some}
+use Rattle.std.specs.Prelude.{ℕ, List, [], ◌∷◌, Option, Some, None}
 use Rattle.common.specs.Pick.{pick}
 use Rattle.error.specs.Refusal.{Told, good}
 use Rattle.nearest.specs.Near.{near}
@@ -16,8 +15,8 @@ use Rattle.units.specs.Answer.{Units, units, defaults, Role, length_role, angle_
 
 -- "the role is a complex record's first part of LENGTH_UNIT, PLANE_ANGLE_UNIT and SOLID_ANGLE_UNIT"
 abbrev pub first_role : List UnitPart → Option Role
-first_role [] = none
-first_role (p ∷ ps) = option_by (first_role ps) some (role_by p.kind)
+first_role [] = None
+first_role (p ∷ ps) = option_by (first_role ps) Some (role_by p.kind)
 
 -- the role of a record, or the fault in its parts; "a simple record gives no factor there": it has no parts
 abbrev pub role_of : SeenRecord → Told (Option Role)
@@ -26,10 +25,10 @@ role_of t = good_by first_role t.parts
 module _ (s : List ℕ) (find : ℕ → Told (Option SeenRecord)) where
   -- "In a unit list the role is ..": what one unit sets by its role; a solid angle, or no role, changes nothing
   abbrev pub by_role : Units → SeenRecord → Option Role → Told Units
-  by_role u t none = good u
-  by_role u t (some length_role) = good_by (with_length u) (length_of s find 16 t)
-  by_role u t (some angle_role) = good_by (with_angle u) (angle_of s find t)
-  by_role u t (some solid_role) = good u
+  by_role u t None = good u
+  by_role u t (Some length_role) = good_by (with_length u) (length_of s find 16 t)
+  by_role u t (Some angle_role) = good_by (with_angle u) (angle_of s find t)
+  by_role u t (Some solid_role) = good u
 
   -- what a unit of the list sets, by its record
   abbrev pub unit_of : Units → SeenRecord → Told Units

@@ -1,17 +1,30 @@
-use mathlib.Core.Path.{sym, ◌∙◌, ap}
-use Rattle.error.specs.Refusal.{good}
-use Rattle.lookup.specs.Lookup.{row_for}
-use Rattle.statement.specs.Rows.{told_row}
-use Rattle.factors.specs.SeenRecords.{seen_record_of, find_of}
-use Rattle.units.specs.Code.{told_asked}
+use Rattle.std.proofs.Common.{◌∙◌, ◌≡◌, ap, sym, refl, subst, arith, ℕ, ◌≤◌, ◌-◌, length, Option, Some, None, option_map, Result, Ok, Err, Float, rules, eq-eqb, ne_eqb}
+use Rattle.std.proofs.lemmas.Result.{err_from_is_err_and}
+use Rattle.std.specs.Float.{binary64}
+use Rattle.std.specs.Float.Ieee.{to_bits}
+use Rattle.error.specs.Refusal.{Told, good, bad, told, told_result}
+use Rattle.error.specs.declared.Fault.{Fault}
+use Rattle.statement.specs.Rows.{told_row, header_row_of}
+use Rattle.statement.specs.declared.Range.{Range}
+use Rattle.params.specs.Answer.{Span, onward}
+use Rattle.kinds.specs.declared.Kind.{Kind}
+use Rattle.factors.specs.SeenRecords.{good_by, self_or, seen_record_of}
+use Rattle.factors.specs.Answer.{span_of}
+use Rattle.factors.specs.Code.{find_in}
+use Rattle.factors.specs.Laws.{find_none, find_row, seen_record_out}
+use Rattle.units.specs.Answer.{Units, defaults, values_in, told_units, refs_in}
 use Rattle.units.specs.Laws.{or_refused, or_other, or_context}
 use Rattle.units.proofs.context_units.Goals as goal
 
-pub returns-in-Refused : goal.returns-in-Refused
-returns-in-Refused c = let a = c.args in let s = a.file.now in let find = find_of s (row_for a.rows.now a.slots.now a.t.ids) in let t = seen_record_of s (told_row a.row) in or_refused s find t (ap told_asked (sym c.in-Refused.is) ∙ c.is_context.ensures)
+pub returns-in_err-is_context : goal.returns-in_err-is_context
+returns-in_err-is_context c = let r = c.args.records in let s = r.file.now in let find = find_in r in
+    let p = err_from_is_err_and c.from_residual.result c.from_residual.ensures.1 in
+    rw (p.1, p.2) (or_refused s find (seen_record_of s (told_row c.args.row)) c.in_err-is_context.ensures)
 
-pub returns-in-No : goal.returns-in-No
-returns-in-No c = let a = c.args in let s = a.file.now in let find = find_of s (row_for a.rows.now a.slots.now a.t.ids) in let t = seen_record_of s (told_row a.row) in ap good c.assumed.ensures ∙ or_other s find t (ap told_asked (sym c.in-No.is) ∙ c.is_context.ensures)
+pub returns-then-not-branch : goal.returns-then-not-branch
+returns-then-not-branch c = let r = c.args.records in let s = r.file.now in let find = find_in r in
+    ap good c.assumed.ensures ∙ or_other s find (seen_record_of s (told_row c.args.row)) (ap good (sym c.if-not-branch.true) ∙ c.in_ok-is_context.ensures)
 
-pub returns-in-Yes : goal.returns-in-Yes
-returns-in-Yes c = let a = c.args in let s = a.file.now in let find = find_of s (row_for a.rows.now a.slots.now a.t.ids) in let t = seen_record_of s (told_row a.row) in or_context s find t (ap told_asked (sym c.in-Yes.is) ∙ c.is_context.ensures) c.units_of_context.ensures
+pub returns : goal.returns
+returns c = let r = c.args.records in let s = r.file.now in let find = find_in r in
+    or_context s find (seen_record_of s (told_row c.args.row)) (ap good (sym c.if-not-branch.false) ∙ c.in_ok-is_context.ensures) c.context.ensures

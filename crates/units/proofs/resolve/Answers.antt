@@ -1,25 +1,36 @@
-use native.Mathlib.Omega.{arith}
-use mathlib.Core.Path.{sym, ◌∙◌, ap}
-use Rattle.error.specs.Refusal.{good}
-use Rattle.lookup.specs.Lookup.{told_entry, row_for}
+use Rattle.std.proofs.Common.{◌∙◌, ◌≡◌, ap, sym, refl, subst, arith, ℕ, ◌≤◌, ◌-◌, length, Option, Some, None, option_map, Result, Ok, Err, Float, rules, eq-eqb, ne_eqb}
+use Rattle.std.proofs.lemmas.Result.{err_from_is_err_and}
+use Rattle.std.specs.Float.{binary64}
+use Rattle.std.specs.Float.Ieee.{to_bits}
+use Rattle.error.specs.Refusal.{Told, good, bad, told, told_result}
+use Rattle.error.specs.declared.Fault.{Fault}
+use Rattle.statement.specs.Rows.{told_row, header_row_of}
+use Rattle.statement.specs.declared.Range.{Range}
+use Rattle.params.specs.Answer.{Span, onward}
+use Rattle.kinds.specs.declared.Kind.{Kind}
+use Rattle.factors.specs.SeenRecords.{good_by, self_or, seen_record_of}
+use Rattle.factors.specs.Answer.{span_of}
+use Rattle.factors.specs.Code.{find_in}
+use Rattle.factors.specs.Laws.{find_none, find_row, seen_record_out}
+use Rattle.units.specs.Answer.{Units, defaults, values_in, told_units, refs_in}
+use Rattle.lookup.specs.Lookup.{row_for}
 use Rattle.factors.specs.SeenRecords.{find_of}
 use Rattle.units.specs.Laws.{resolve_starts, resolve_over, row_there, resolve_last, resolve_goes}
 use Rattle.units.proofs.resolve.Goals as goal
 
-pub loop-w-init : goal.loop-w-init
-loop-w-init c = let a = c.args in let s = a.file.now in let rows = a.rows.now in let find = find_of s (row_for rows a.slots.now a.t.ids) in resolve_starts s find rows a.t.records
+pub loop-row-init : goal.loop-row-init
+loop-row-init c = resolve_starts c.args.file.now (find_of c.args.file.now (row_for c.args.rows.now c.args.slots.now c.args.t.ids)) c.args.rows.now c.args.t.records
 
-pub returns-in_default : goal.returns-in_default
-returns-in_default c = let a = c.args in let s = a.file.now in let rows = a.rows.now in let find = find_of s (row_for rows a.slots.now a.t.ids) in ap good c.assumed.ensures ∙ resolve_over s find rows a.t.records c.loop-w.k c.loop-w.invariant (ap told_entry (sym c.in_default.is) ∙ c.entity.ensures)
+pub returns : goal.returns
+returns c = ap good c.assumed.ensures ∙ resolve_over c.args.file.now (find_of c.args.file.now (row_for c.args.rows.now c.args.slots.now c.args.t.ids)) c.args.rows.now c.args.t.records c.loop-row.k c.loop-row.invariant c.in_default.ensures
 
-pub returns-then-is_last : goal.returns-then-is_last
-returns-then-is_last c = let a = c.args in let s = a.file.now in let rows = a.rows.now in let find = find_of s (row_for rows a.slots.now a.t.ids) in resolve_last s find rows a.t.records c.loop-w.k c.loop-w.invariant (ap told_entry (sym c.in-Row.is) ∙ c.entity.ensures) c.context_units-r.ensures (sym c.is_last.ensures ∙ c.if-is_last.true)
+pub returns-in_err-values : goal.returns-in_err-values
+returns-in_err-values c =
+    let p = err_from_is_err_and c.from_residual.result c.from_residual.ensures.1 in
+    rw (p.1, p.2) (resolve_last c.args.file.now (find_of c.args.file.now (row_for c.args.rows.now c.args.slots.now c.args.t.ids)) c.args.rows.now c.args.t.records c.loop-row.k c.loop-row.invariant c.in-Some.ensures c.in_err-values.ensures refl)
 
-pub overflow_add-k : goal.overflow_add-k
-overflow_add-k c = let a = c.args in let s = a.file.now in let rows = a.rows.now in let find = find_of s (row_for rows a.slots.now a.t.ids) in let (l, e) = row_there s find rows a.t.records c.loop-w.k (ap told_entry (sym c.in-Row.is) ∙ c.entity.ensures) in omega (arith, l)
+pub returns-then-values : goal.returns-then-values
+returns-then-values c = resolve_last c.args.file.now (find_of c.args.file.now (row_for c.args.rows.now c.args.slots.now c.args.t.ids)) c.args.rows.now c.args.t.records c.loop-row.k c.loop-row.invariant c.in-Some.ensures c.in_ok-values.ensures c.if-values.true
 
-pub loop-w-smaller : goal.loop-w-smaller
-loop-w-smaller c = let a = c.args in let s = a.file.now in let rows = a.rows.now in let find = find_of s (row_for rows a.slots.now a.t.ids) in let (l, e) = row_there s find rows a.t.records c.loop-w.k (ap told_entry (sym c.in-Row.is) ∙ c.entity.ensures) in omega (arith, l)
-
-pub loop-w-preserved : goal.loop-w-preserved
-loop-w-preserved c = let a = c.args in let s = a.file.now in let rows = a.rows.now in let find = find_of s (row_for rows a.slots.now a.t.ids) in resolve_goes s find rows a.t.records c.loop-w.k c.loop-w.invariant (ap told_entry (sym c.in-Row.is) ∙ c.entity.ensures) c.context_units-r.ensures (sym c.is_last.ensures ∙ c.if-is_last.false)
+pub loop-row-preserved : goal.loop-row-preserved
+loop-row-preserved c = resolve_goes c.args.file.now (find_of c.args.file.now (row_for c.args.rows.now c.args.slots.now c.args.t.ids)) c.args.rows.now c.args.t.records c.loop-row.k c.loop-row.invariant c.in-Some.ensures c.in_ok-values.ensures c.if-values.false

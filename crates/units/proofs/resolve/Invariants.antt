@@ -5,8 +5,8 @@ use Rattle.factors.specs.SeenRecords.{find_of}
 use Rattle.units.specs.Laws.{Resolving}
 use Rattle.units.proofs.resolve.Given as goal
 
-abbrev pub invariant-loop-w : goal.invariant-loop-w
-invariant-loop-w l = Resolving l.file (find_of l.file (row_for l.rows l.slots l.t.ids)) l.rows l.t.records l.k
+abbrev pub invariant-loop-row : goal.invariant-loop-row
+invariant-loop-row l = Resolving l.file (find_of l.file (row_for l.rows l.slots l.t.ids)) l.rows l.t.records l.k
 
-abbrev pub decreases-loop-w : goal.decreases-loop-w
-decreases-loop-w l = table_rows l.rows l.t.records - l.k
+abbrev pub decreases-loop-row : goal.decreases-loop-row
+decreases-loop-row l = table_rows l.rows l.t.records - l.k

@@ -1,33 +1,51 @@
-use mathlib.Core.Path.{sym, ◌∙◌, ap}
-use lib.Dec.{eqb}
-use Rattle.kinds.specs.Rules.{rank_of}
+use Rattle.std.proofs.Common.{◌∙◌, ◌≡◌, ap, sym, refl, subst, arith, ℕ, ◌≤◌, ◌-◌, length, Option, Some, None, option_map, Result, Ok, Err, Float, rules, eq-eqb, ne_eqb}
+use Rattle.std.proofs.lemmas.Result.{err_from_is_err_and}
+use Rattle.std.specs.Float.{binary64}
+use Rattle.std.specs.Float.Ieee.{to_bits}
+use Rattle.error.specs.Refusal.{Told, good, bad, told, told_result}
+use Rattle.error.specs.declared.Fault.{Fault}
+use Rattle.statement.specs.Rows.{told_row, header_row_of}
+use Rattle.statement.specs.declared.Range.{Range}
+use Rattle.params.specs.Answer.{Span, onward}
 use Rattle.kinds.specs.declared.Kind.{Kind}
-use Rattle.kinds.specs.declared.Kind.TheVariants.{UncertaintyMeasureWithUnit}
-use Rattle.statement.specs.Rows.{told_row}
-use Rattle.lookup.specs.Lookup.{told_entry, told_span, row_for}
-use Rattle.factors.specs.SeenRecords.{seen_record_of, find_of}
+use Rattle.factors.specs.SeenRecords.{good_by, self_or, seen_record_of}
+use Rattle.factors.specs.Answer.{span_of}
+use Rattle.factors.specs.Code.{find_in}
 use Rattle.factors.specs.Laws.{find_none, find_row, seen_record_out}
+use Rattle.units.specs.Answer.{Units, defaults, values_in, told_units, refs_in}
 use Rattle.units.specs.Answer.{uncertainty_of}
+use Rattle.kinds.specs.Kind.{rank_one}
+use Rattle.kinds.specs.Rules.{rank_of}
+use Rattle.kinds.specs.declared.Kind.TheVariants.{UncertaintyMeasureWithUnit}
+use Rattle.params.specs.declared.State.{State}
+use Rattle.scalars.specs.Scalars.{measure_of}
+use Rattle.scalars.specs.Answer.{next_of}
+use Rattle.factors.specs.Factor.{number_or_none}
 use Rattle.units.specs.Laws.{uncertain_missing, uncertain_row, uncertain_other, uncertain_own}
 use Rattle.units.proofs.listed.one_uncertainty.Goals as goal
 
 pub returns-in_default : goal.returns-in_default
-returns-in_default c = let a = c.args in let s = a.file.now in let find = find_of s (row_for a.rows.now a.slots.now a.t.ids) in
-    uncertain_missing s find a.id (find_none s a.rows.now a.slots.now a.t.ids a.id (ap told_entry (sym c.in_default.is) ∙ c.get.ensures))
+returns-in_default c = let r = c.args.records in let s = r.file.now in let find = find_in r in
+    uncertain_missing s find c.args.id (find_none s r.rows.now r.slots.now r.tables.ids c.args.id c.in_default.ensures)
 
-pub returns-in_default-args_of : goal.returns-in_default-args_of
-returns-in_default-args_of c = let a = c.args in let s = a.file.now in let find = find_of s (row_for a.rows.now a.slots.now a.t.ids) in let w = told_row c.in-Row.w in
-    uncertain_row s find a.id (seen_record_of s w) (find_row s a.rows.now a.slots.now a.t.ids a.id (ap told_entry (sym c.in-Row.is) ∙ c.get.ensures))
-    (seen_record_out (uncertainty_of s) s w (ap told_span (sym c.in_default-args_of.is) ∙ c.args_of.ensures))
+pub returns-in_err-args : goal.returns-in_err-args
+returns-in_err-args c = let r = c.args.records in let s = r.file.now in let find = find_in r in
+    let w = told_row c.in-Some.row in
+    let p = err_from_is_err_and c.from_residual.result c.from_residual.ensures.1 in
+    rw (p.1, p.2) (uncertain_row s find c.args.id (seen_record_of s w) (find_row s r.rows.now r.slots.now r.tables.ids c.args.id c.in-Some.ensures) (seen_record_out (uncertainty_of s) s w c.in_err-args.ensures))
 
-pub returns-then-not-same_kind : goal.returns-then-not-same_kind
-returns-then-not-same_kind c = let a = c.args in let s = a.file.now in let find = find_of s (row_for a.rows.now a.slots.now a.t.ids) in let w = told_row c.in-Row.w in
-    let k = ap (λ (x : Kind). eqb (rank_of x) (rank_of UncertaintyMeasureWithUnit)) (sym c.kind_in.ensures) ∙ sym c.same_kind.ensures ∙ c.if-not-same_kind.true in
-    uncertain_row s find a.id (seen_record_of s w) (find_row s a.rows.now a.slots.now a.t.ids a.id (ap told_entry (sym c.in-Row.is) ∙ c.get.ensures))
-    (uncertain_other s find w (ap told_span (sym c.in-Span.is) ∙ c.args_of.ensures) k)
+pub returns-then-ne : goal.returns-then-ne
+returns-then-ne c = let r = c.args.records in let s = r.file.now in let find = find_in r in
+    let w = told_row c.in-Some.row in
+    let other : c.kind_in.result ≡ UncertaintyMeasureWithUnit → ⊥ = search rules in
+    uncertain_row s find c.args.id (seen_record_of s w) (find_row s r.rows.now r.slots.now r.tables.ids c.args.id c.in-Some.ensures)
+    (uncertain_other s find w c.in_ok-args.ensures (ne_eqb _ _ (λ e. other (c.kind_in.ensures ∙ rank_one _ _ e))))
 
 pub returns : goal.returns
-returns c = let a = c.args in let s = a.file.now in let find = find_of s (row_for a.rows.now a.slots.now a.t.ids) in let w = told_row c.in-Row.w in
-    let k = ap (λ (x : Kind). eqb (rank_of x) (rank_of UncertaintyMeasureWithUnit)) (sym c.kind_in.ensures) ∙ sym c.same_kind.ensures ∙ c.if-not-same_kind.false in
-    uncertain_row s find a.id (seen_record_of s w) (find_row s a.rows.now a.slots.now a.t.ids a.id (ap told_entry (sym c.in-Row.is) ∙ c.get.ensures))
-    (uncertain_own s find w (ap told_span (sym c.in-Span.is) ∙ c.args_of.ensures) k c.uncertain_by.ensures c.next_measure_f64.ensures)
+returns c = let r = c.args.records in let s = r.file.now in let find = find_in r in
+    let w = told_row c.in-Some.row in
+    let same : c.kind_in.result ≡ UncertaintyMeasureWithUnit = search rules in
+    uncertain_row s find c.args.id (seen_record_of s w) (find_row s r.rows.now r.slots.now r.tables.ids c.args.id c.in-Some.ensures)
+    (c.measure_number.ensures.number
+    ∙ ap (λ (o : State). number_or_none (next_of measure_of s o.place o.end).answer) c.reader-at.ensures
+    ∙ uncertain_own s find w c.in_ok-args.ensures (eq-eqb _ _ (ap rank_of (sym c.kind_in.ensures ∙ same))))

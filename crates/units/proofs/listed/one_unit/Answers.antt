@@ -1,37 +1,52 @@
-use mathlib.Core.Path.{sym, ◌∙◌, ap}
-use Rattle.statement.specs.Rows.{told_row}
-use Rattle.lookup.specs.Lookup.{told_entry, row_for}
-use Rattle.factors.specs.SeenRecords.{seen_record_of, find_of}
-use Rattle.factors.specs.Laws.{find_none, find_row}
-use Rattle.units.specs.Answer.{values_in, told_unit_role}
+use Rattle.std.proofs.Common.{◌∙◌, ◌≡◌, ap, sym, refl, subst, arith, ℕ, ◌≤◌, ◌-◌, length, Option, Some, None, option_map, Result, Ok, Err, Float, rules, eq-eqb, ne_eqb}
+use Rattle.std.proofs.lemmas.Result.{err_from_is_err_and}
+use Rattle.std.specs.Float.{binary64}
+use Rattle.std.specs.Float.Ieee.{to_bits}
+use Rattle.error.specs.Refusal.{Told, good, bad, told, told_result}
+use Rattle.error.specs.declared.Fault.{Fault}
+use Rattle.statement.specs.Rows.{told_row, header_row_of}
+use Rattle.statement.specs.declared.Range.{Range}
+use Rattle.params.specs.Answer.{Span, onward}
+use Rattle.kinds.specs.declared.Kind.{Kind}
+use Rattle.factors.specs.SeenRecords.{good_by, self_or, seen_record_of}
+use Rattle.factors.specs.Answer.{span_of}
+use Rattle.factors.specs.Code.{find_in}
+use Rattle.factors.specs.Laws.{find_none, find_row, seen_record_out}
+use Rattle.units.specs.Answer.{Units, defaults, values_in, told_units, refs_in}
+use Rattle.units.specs.declared.role.Role.TheVariants.{Length, Angle, Solid}
 use Rattle.units.specs.Laws.{unit_missing, unit_row, role_refused, role_none, role_solid, role_length, role_angle}
 use Rattle.units.proofs.listed.one_unit.Goals as goal
 
 pub returns-in_default : goal.returns-in_default
-returns-in_default c = let a = c.args in let s = a.file.now in let find = find_of s (row_for a.rows.now a.slots.now a.t.ids) in
-    unit_missing s find (values_in a.u) a.id (find_none s a.rows.now a.slots.now a.t.ids a.id (ap told_entry (sym c.in_default.is) ∙ c.get.ensures))
+returns-in_default c = let r = c.args.records in let s = r.file.now in let find = find_in r in
+    unit_missing s find (values_in c.args.u) c.args.id (find_none s r.rows.now r.slots.now r.tables.ids c.args.id c.in_default.ensures)
 
-pub returns-in-Refused : goal.returns-in-Refused
-returns-in-Refused c = let a = c.args in let s = a.file.now in let find = find_of s (row_for a.rows.now a.slots.now a.t.ids) in let t = seen_record_of s (told_row c.in-Row.w) in
-    unit_row s find (values_in a.u) a.id t (find_row s a.rows.now a.slots.now a.t.ids a.id (ap told_entry (sym c.in-Row.is) ∙ c.get.ensures))
-    (role_refused s find (values_in a.u) t (ap told_unit_role (sym c.in-Refused.is) ∙ c.role_of.ensures))
+pub returns-in_err-role_of : goal.returns-in_err-role_of
+returns-in_err-role_of c = let r = c.args.records in let s = r.file.now in let find = find_in r in
+    let t = seen_record_of s (told_row c.in-Some.row) in
+    let p = err_from_is_err_and c.from_residual.result c.from_residual.ensures.1 in
+    rw (p.1, p.2) (unit_row s find (values_in c.args.u) c.args.id t (find_row s r.rows.now r.slots.now r.tables.ids c.args.id c.in-Some.ensures) (role_refused s find (values_in c.args.u) t c.in_err-role_of.ensures))
 
-pub returns-in-Nothing : goal.returns-in-Nothing
-returns-in-Nothing c = let a = c.args in let s = a.file.now in let find = find_of s (row_for a.rows.now a.slots.now a.t.ids) in let t = seen_record_of s (told_row c.in-Row.w) in
-    unit_row s find (values_in a.u) a.id t (find_row s a.rows.now a.slots.now a.t.ids a.id (ap told_entry (sym c.in-Row.is) ∙ c.get.ensures))
-    (role_none s find (values_in a.u) t (ap told_unit_role (sym c.in-Nothing.is) ∙ c.role_of.ensures))
+pub returns-in_err-length_factor-in-Some-Length : goal.returns-in_err-length_factor-in-Some-Length
+returns-in_err-length_factor-in-Some-Length c = let r = c.args.records in let s = r.file.now in let find = find_in r in let t = seen_record_of s (told_row c.in-Some.row) in let e : c.in_ok-role_of.field-0 ≡ Some Length = cc in let h = ap good (sym e) ∙ c.in_ok-role_of.ensures in
+    let p = err_from_is_err_and c.from_residual-in_err-length_factor-in-Some-Length.result c.from_residual-in_err-length_factor-in-Some-Length.ensures.1 in
+    rw (p.1, p.2) (unit_row s find (values_in c.args.u) c.args.id t (find_row s r.rows.now r.slots.now r.tables.ids c.args.id c.in-Some.ensures) (role_length s find (values_in c.args.u) t h refl c.in_err-length_factor-in-Some-Length.ensures))
 
-pub returns-in-Solid : goal.returns-in-Solid
-returns-in-Solid c = let a = c.args in let s = a.file.now in let find = find_of s (row_for a.rows.now a.slots.now a.t.ids) in let t = seen_record_of s (told_row c.in-Row.w) in
-    unit_row s find (values_in a.u) a.id t (find_row s a.rows.now a.slots.now a.t.ids a.id (ap told_entry (sym c.in-Row.is) ∙ c.get.ensures))
-    (role_solid s find (values_in a.u) t (ap told_unit_role (sym c.in-Solid.is) ∙ c.role_of.ensures))
+pub returns-in_ok-length_factor-in-Some-Length : goal.returns-in_ok-length_factor-in-Some-Length
+returns-in_ok-length_factor-in-Some-Length c = let r = c.args.records in let s = r.file.now in let find = find_in r in let t = seen_record_of s (told_row c.in-Some.row) in let e : c.in_ok-role_of.field-0 ≡ Some Length = cc in let h = ap good (sym e) ∙ c.in_ok-role_of.ensures in
+    unit_row s find (values_in c.args.u) c.args.id t (find_row s r.rows.now r.slots.now r.tables.ids c.args.id c.in-Some.ensures) (role_length s find (values_in c.args.u) t h (ap good c.with_length.ensures) c.in_ok-length_factor-in-Some-Length.ensures)
 
-pub returns-in-Length : goal.returns-in-Length
-returns-in-Length c = let a = c.args in let s = a.file.now in let find = find_of s (row_for a.rows.now a.slots.now a.t.ids) in let t = seen_record_of s (told_row c.in-Row.w) in
-    unit_row s find (values_in a.u) a.id t (find_row s a.rows.now a.slots.now a.t.ids a.id (ap told_entry (sym c.in-Row.is) ∙ c.get.ensures))
-    (role_length s find (values_in a.u) t (ap told_unit_role (sym c.in-Length.is) ∙ c.role_of.ensures) c.with_length.ensures c.length_factor.ensures)
+pub returns-in_err-angle_factor-in-Some-Angle : goal.returns-in_err-angle_factor-in-Some-Angle
+returns-in_err-angle_factor-in-Some-Angle c = let r = c.args.records in let s = r.file.now in let find = find_in r in let t = seen_record_of s (told_row c.in-Some.row) in let e : c.in_ok-role_of.field-0 ≡ Some Angle = cc in let h = ap good (sym e) ∙ c.in_ok-role_of.ensures in
+    let p = err_from_is_err_and c.from_residual-in_err-angle_factor-in-Some-Angle.result c.from_residual-in_err-angle_factor-in-Some-Angle.ensures.1 in
+    rw (p.1, p.2) (unit_row s find (values_in c.args.u) c.args.id t (find_row s r.rows.now r.slots.now r.tables.ids c.args.id c.in-Some.ensures) (role_angle s find (values_in c.args.u) t h refl c.in_err-angle_factor-in-Some-Angle.ensures))
 
-pub returns-in-Angle : goal.returns-in-Angle
-returns-in-Angle c = let a = c.args in let s = a.file.now in let find = find_of s (row_for a.rows.now a.slots.now a.t.ids) in let t = seen_record_of s (told_row c.in-Row.w) in
-    unit_row s find (values_in a.u) a.id t (find_row s a.rows.now a.slots.now a.t.ids a.id (ap told_entry (sym c.in-Row.is) ∙ c.get.ensures))
-    (role_angle s find (values_in a.u) t (ap told_unit_role (sym c.in-Angle.is) ∙ c.role_of.ensures) c.with_angle.ensures c.angle_factor.ensures)
+pub returns-in_ok-angle_factor-in-Some-Angle : goal.returns-in_ok-angle_factor-in-Some-Angle
+returns-in_ok-angle_factor-in-Some-Angle c = let r = c.args.records in let s = r.file.now in let find = find_in r in let t = seen_record_of s (told_row c.in-Some.row) in let e : c.in_ok-role_of.field-0 ≡ Some Angle = cc in let h = ap good (sym e) ∙ c.in_ok-role_of.ensures in
+    unit_row s find (values_in c.args.u) c.args.id t (find_row s r.rows.now r.slots.now r.tables.ids c.args.id c.in-Some.ensures) (role_angle s find (values_in c.args.u) t h (ap good c.with_angle.ensures) c.in_ok-angle_factor-in-Some-Angle.ensures)
+
+pub returns-in-Some-Solid : goal.returns-in-Some-Solid
+returns-in-Some-Solid c = let r = c.args.records in let s = r.file.now in let find = find_in r in let t = seen_record_of s (told_row c.in-Some.row) in let e : c.in_ok-role_of.field-0 ≡ Some Solid = cc in let h = ap good (sym e) ∙ c.in_ok-role_of.ensures in unit_row s find (values_in c.args.u) c.args.id t (find_row s r.rows.now r.slots.now r.tables.ids c.args.id c.in-Some.ensures) (role_solid s find (values_in c.args.u) t h)
+
+pub returns-in-None : goal.returns-in-None
+returns-in-None c = let r = c.args.records in let s = r.file.now in let find = find_in r in let t = seen_record_of s (told_row c.in-Some.row) in let e : c.in_ok-role_of.field-0 ≡ None = cc in let h = ap good (sym e) ∙ c.in_ok-role_of.ensures in unit_row s find (values_in c.args.u) c.args.id t (find_row s r.rows.now r.slots.now r.tables.ids c.args.id c.in-Some.ensures) (role_none s find (values_in c.args.u) t h)

@@ -1,14 +1,14 @@
 use Prim.Native.Nat.{◌-◌}
 use lib.ListN.{length}
-use Rattle.lookup.specs.Lookup.{row_for}
-use Rattle.factors.specs.SeenRecords.{find_of}
+use Rattle.factors.specs.Code.{find_in}
+use Rattle.units.specs.Answer.{defaults, values_in}
 use Rattle.units.specs.Units.{tolerance_by}
 use Rattle.units.specs.Code.{ids_of}
 use Rattle.units.specs.Laws.{RefsReading}
 use Rattle.units.proofs.listed.tolerance_from.Given as goal
 
 abbrev pub invariant-loop-id : goal.invariant-loop-id
-invariant-loop-id l = RefsReading l.b (tolerance_by l.file (find_of l.file (row_for l.rows l.slots l.t.ids))) (tolerance_by l.file (find_of l.file (row_for l.rows l.slots l.t.ids)) (ids_of l.b)) l.i
+invariant-loop-id l = RefsReading l.b (tolerance_by l.records.file.now (find_in l.records)) (tolerance_by l.records.file.now (find_in l.records) (ids_of l.b)) l.i
 
 abbrev pub decreases-loop-id : goal.decreases-loop-id
 decreases-loop-id l = length l.b - l.i

@@ -1,36 +1,49 @@
-use mathlib.Core.Path.{sym, ◌∙◌, ap, subst}
-use native.Mathlib.Omega.{arith}
-use Prim.Native.Nat.{◌+◌, ◌≤◌}
-use lib.ListN.{length}
-use Rattle.statement.specs.Rows.{header_row_of}
-use Rattle.error.specs.Refusal.{told}
+use Rattle.std.proofs.Common.{◌∙◌, ◌≡◌, ap, sym, refl, subst, arith, ℕ, ◌≤◌, ◌-◌, length, Option, Some, None, option_map, Result, Ok, Err, Float, rules, eq-eqb, ne_eqb}
+use Rattle.std.proofs.lemmas.Result.{err_from_is_err_and}
+use Rattle.std.specs.Float.{binary64}
+use Rattle.std.specs.Float.Ieee.{to_bits}
+use Rattle.error.specs.Refusal.{Told, good, bad, told, told_result}
+use Rattle.error.specs.declared.Fault.{Fault}
+use Rattle.statement.specs.Rows.{told_row, header_row_of}
+use Rattle.statement.specs.declared.Range.{Range}
+use Rattle.params.specs.Answer.{Span, onward}
+use Rattle.kinds.specs.declared.Kind.{Kind}
+use Rattle.factors.specs.SeenRecords.{good_by, self_or, seen_record_of}
+use Rattle.factors.specs.Answer.{span_of}
+use Rattle.factors.specs.Code.{find_in}
+use Rattle.factors.specs.Laws.{find_none, find_row, seen_record_out}
+use Rattle.units.specs.Answer.{Units, defaults, values_in, told_units, refs_in}
 use Rattle.parts.specs.Rules.{told_next}
 use Rattle.parts.specs.Laws.{next_ahead}
-use Rattle.kinds.specs.declared.Kind.{Kind}
-use Rattle.units.specs.Code.{role_after, kept_role}
-use Rattle.units.specs.Laws.{RoleSeeking, role_seek_starts, role_seek_over, role_seek_refused, role_seek_goes}
-use Rattle.units.specs.declared.role.UnitRole.{UnitRole}
+use Rattle.units.specs.Answer.{Role, role_by}
+use Rattle.std.proofs.Common.{◌+◌}
+use Rattle.units.specs.Laws.{RoleSeeking, role_or, or_is, role_seek_starts, role_seek_over, role_seek_refused, role_seek_goes}
 use Rattle.units.proofs.role.role_from.Goals as goal
 
-pub loop-got-init : goal.loop-got-init
-loop-got-init c = role_seek_starts c.args.file.now c.args.start c.args.end c.requires
+pub loop-p-init : goal.loop-p-init
+loop-p-init c = role_seek_starts c.args.file.now c.args.start c.args.end c.requires
 
-pub returns-in-Over : goal.returns-in-Over
-returns-in-Over c = role_seek_over c.args.file.now c.args.start c.args.end c.loop-got.i c.loop-got.got c.loop-got.invariant (sym c.next_part.ensures ∙ ap told_next c.in-Over.is)
+pub returns : goal.returns
+returns c = role_seek_over c.args.file.now c.args.start c.args.end c.loop-p.i c.loop-p.got c.loop-p.invariant (sym c.in_ok-p.ensures ∙ ap (λ x. told_next (Ok x)) c.in_default.is)
 
-pub returns-in-Refused : goal.returns-in-Refused
-returns-in-Refused c = role_seek_refused c.args.file.now c.args.start c.args.end c.loop-got.i c.loop-got.got c.loop-got.invariant (told c.in-Refused.f) (sym c.next_part.ensures ∙ ap told_next c.in-Refused.is)
+pub returns-in_err-p : goal.returns-in_err-p
+returns-in_err-p c =
+    let p = err_from_is_err_and c.from_residual.result c.from_residual.ensures.1 in
+    rw (p.1, p.2) (role_seek_refused c.args.file.now c.args.start c.args.end c.loop-p.i c.loop-p.got c.loop-p.invariant _ (sym c.in_err-p.ensures))
 
 pub overflow_add-i : goal.overflow_add-i
-overflow_add-i c = let (a, b, d, e) = next_ahead c.args.file.now c.loop-got.i c.args.end (header_row_of c.in-Is.p) (sym c.next_part.ensures ∙ ap told_next c.in-Is.is) in
+overflow_add-i c =
+    let (a, b, d, e) = next_ahead c.args.file.now c.loop-p.i c.args.end (header_row_of c.in-Some.p) (sym c.in_ok-p.ensures ∙ ap (λ x. told_next (Ok x)) c.in-Some.is) in
     record { fits = omega arith }
 
-pub loop-got-smaller : goal.loop-got-smaller
-loop-got-smaller c = let (a, b, d, e) = next_ahead c.args.file.now c.loop-got.i c.args.end (header_row_of c.in-Is.p) (sym c.next_part.ensures ∙ ap told_next c.in-Is.is) in
-    let w : c.loop-got.i ≤ length c.args.file.now = c.loop-got.invariant.inside in
+pub loop-p-smaller : goal.loop-p-smaller
+loop-p-smaller c =
+    let (a, b, d, e) = next_ahead c.args.file.now c.loop-p.i c.args.end (header_row_of c.in-Some.p) (sym c.in_ok-p.ensures ∙ ap (λ x. told_next (Ok x)) c.in-Some.is) in
+    let w : c.loop-p.i ≤ length c.args.file.now = c.loop-p.invariant.inside in
     omega arith
 
-pub loop-got-preserved : goal.loop-got-preserved
-loop-got-preserved c = let p = c.in-Is.p in
-    let k = c.kept-got.ensures ∙ ap (kept_role c.loop-got.got) (c.role_by.ensures ∙ ap (λ (x : Kind). role_after x) c.part_kind.ensures) in
-    subst (λ (z : UnitRole). RoleSeeking c.args.file.now c.args.start c.args.end (p.args.end + 1) z) (sym k) (role_seek_goes c.args.file.now c.args.start c.args.end c.loop-got.i c.loop-got.got c.loop-got.invariant p (sym c.next_part.ensures ∙ ap told_next c.in-Is.is))
+pub loop-p-preserved : goal.loop-p-preserved
+loop-p-preserved c =
+    let k = c.or-got.ensures ∙ or_is c.loop-p.got c.role_by.result ∙ ap (role_or c.loop-p.got) (c.role_by.ensures ∙ ap role_by c.part_kind.ensures) in
+    subst (λ (z : Option Role). RoleSeeking c.args.file.now c.args.start c.args.end (c.in-Some.p.args.end + 1) z) (sym k)
+    (role_seek_goes c.args.file.now c.args.start c.args.end c.loop-p.i c.loop-p.got c.loop-p.invariant c.in-Some.p (sym c.in_ok-p.ensures ∙ ap (λ x. told_next (Ok x)) c.in-Some.is))

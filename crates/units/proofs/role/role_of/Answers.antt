@@ -1,21 +1,32 @@
-use mathlib.Core.Path.{sym, ◌∙◌, ap}
-use lib.ListN.{length}
-use borrow.Author.Tests.{eq-eqb, ne_eqb}
-use Rattle.statement.specs.Rows.{told_row}
-use Rattle.lookup.specs.Lookup.{told_span}
-use Rattle.factors.specs.Laws.{seen_record_out}
+use Rattle.std.proofs.Common.{◌∙◌, ◌≡◌, ap, sym, refl, subst, arith, ℕ, ◌≤◌, ◌-◌, length, Option, Some, None, option_map, Result, Ok, Err, Float, rules, eq-eqb, ne_eqb}
+use Rattle.std.proofs.lemmas.Result.{err_from_is_err_and}
+use Rattle.std.specs.Float.{binary64}
+use Rattle.std.specs.Float.Ieee.{to_bits}
+use Rattle.error.specs.Refusal.{Told, good, bad, told, told_result}
+use Rattle.error.specs.declared.Fault.{Fault}
+use Rattle.statement.specs.Rows.{told_row, header_row_of}
+use Rattle.statement.specs.declared.Range.{Range}
+use Rattle.params.specs.Answer.{Span, onward}
+use Rattle.kinds.specs.declared.Kind.{Kind}
+use Rattle.factors.specs.SeenRecords.{good_by, self_or, seen_record_of}
+use Rattle.factors.specs.Answer.{span_of}
+use Rattle.factors.specs.Code.{find_in}
+use Rattle.factors.specs.Laws.{find_none, find_row, seen_record_out}
+use Rattle.units.specs.Answer.{Units, defaults, values_in, told_units, refs_in}
 use Rattle.units.specs.Units.{role_of}
 use Rattle.units.specs.Laws.{span_starts, role_simple, role_parts}
 use Rattle.units.proofs.role.role_of.Goals as goal
 
-pub returns-in_default : goal.returns-in_default
-returns-in_default c = let a = c.args in seen_record_out role_of a.file.now (told_row a.row) (ap told_span (sym c.in_default.is) ∙ c.args_of.ensures)
+pub returns-in_err-args : goal.returns-in_err-args
+returns-in_err-args c =
+    let p = err_from_is_err_and c.from_residual.result c.from_residual.ensures.1 in
+    rw (p.1, p.2) (seen_record_out role_of c.args.file.now (told_row c.args.row) c.in_err-args.ensures)
 
 pub returns-then-row-ne1 : goal.returns-then-row-ne1
-returns-then-row-ne1 c = let a = c.args in role_simple a.file.now (told_row a.row) (ap told_span (sym c.in-Span.is) ∙ c.args_of.ensures) (ne_eqb a.row.complex 1 c.if-row-ne1.true)
+returns-then-row-ne1 c = role_simple c.args.file.now (told_row c.args.row) c.in_ok-args.ensures (ne_eqb c.args.row.complex 1 c.if-row-ne1.true)
 
 pub role_from-requires : goal.role_from-requires
-role_from-requires c = let a = c.args in span_starts (length a.file.now) a.row.args.start a.row.args.end (ap told_span (sym c.in-Span.is) ∙ c.args_of.ensures)
+role_from-requires c = span_starts (length c.args.file.now) c.args.row.args.start c.args.row.args.end c.in_ok-args.ensures
 
 pub returns : goal.returns
-returns c = let a = c.args in role_parts a.file.now (told_row a.row) (ap told_span (sym c.in-Span.is) ∙ c.args_of.ensures) (eq-eqb a.row.complex 1 c.if-row-ne1.false) c.role_from.ensures
+returns c = role_parts c.args.file.now (told_row c.args.row) c.in_ok-args.ensures (eq-eqb c.args.row.complex 1 c.if-row-ne1.false) c.role_from.ensures
