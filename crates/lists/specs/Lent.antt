@@ -7,6 +7,7 @@ use Rattle.std.proofs.lemmas.List.{length-map}
 use Rattle.reals.specs.Scalar.{reference_of, whole_of}
 use Rattle.reals.specs.Which.{real_by}
 use Rattle.lists.specs.declared.Kind.{Kind}
+use Rattle.lists.specs.declared.Rooms.{Rooms}
 use Rattle.lists.specs.declared.Kind.TheVariants.{References, Integers, Floats, Any}
 use Rattle.reals.specs.declared.NotRead.{NotRead}
 use Rattle.reals.specs.declared.NotRead.TheVariants.{Outside, NotReal}
@@ -38,6 +39,20 @@ lent_of Integers refs wholes reals = wholes
 lent_of (Floats which) refs wholes reals = map (to_bits binary64) reals
 lent_of Any refs wholes reals = []
 
+-- the lent numbers of a kind, of the rooms as they stand
+abbrev pub lent_in : (kind : Kind) → Rooms → List (ItemValue kind)
+lent_in kind r = lent_of kind r.refs.now r.wholes.now r.reals.now
+
+-- the rooms are the same ones, as long as they were
+abbrev pub SameRooms : Rooms → Rooms → Type 0
+SameRooms r q =
+    (q.refs.ghost_name ≡ r.refs.ghost_name) × (q.wholes.ghost_name ≡ r.wholes.ghost_name) × (q.reals.ghost_name ≡ r.reals.ghost_name)
+    × (length q.refs.now ≡ length r.refs.now) × (length q.wholes.now ≡ length r.wholes.now) × (length q.reals.now ≡ length r.reals.now)
+
+-- the rooms stay the same ones, one change after another
+pub same_rooms : (r q s : Rooms) → SameRooms r q → SameRooms q s → SameRooms r s
+same_rooms r q s (a, b, c, d, e, f) (u, v, w, x, y, z) = (u ∙ a, v ∙ b, w ∙ c, x ∙ d, y ∙ e, z ∙ f)
+
 -- how many there are
 abbrev pub kind_room : Kind → ℕ → ℕ → ℕ → ℕ
 kind_room References refs wholes reals = refs
@@ -48,6 +63,10 @@ kind_room Any refs wholes reals = 0
 -- a list fits into the lent numbers of its kind
 abbrev pub fits_by : (kind : Kind) → List ℕ → List ℤ → List Float → List (ItemValue kind) → Bool
 fits_by kind refs wholes reals vs = fits_in (kind_room kind (length refs) (length wholes) (length reals)) vs
+
+-- a list fits into the lent numbers of its kind, of the rooms as they stand
+abbrev pub fits_in_rooms : (kind : Kind) → Rooms → List (ItemValue kind) → Bool
+fits_in_rooms kind r vs = fits_by kind r.refs.now r.wholes.now r.reals.now vs
 
 -- a value that reads is put at its place, if there is such a place
 abbrev pub kept_at : {A : Type 0} → ℕ → Fate A → List A → List A

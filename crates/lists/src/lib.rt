@@ -6,7 +6,7 @@
 // lists of lists and lists of any length.
 #![tactic(auto)]
 
-ghost use Rattle.std.specs.Prelude.{◌≡◌, ◌+◌, ◌-◌, ◌≤◌, ◌<◌, ◌^◌, min, [], map, length, drop, set};
+ghost use Rattle.std.specs.Prelude.{◌≡◌, ◌+◌, ◌-◌, ◌≤◌, ◌<◌, ◌^◌, min, [], ◌++◌, map, length, take, drop, set};
 ghost use Rattle.std.specs.Float.{binary64};
 ghost use Rattle.std.specs.Float.Ieee.{to_bits};
 ghost use Rattle.error.specs.Refusal.{told, told_result, refusal};
@@ -16,7 +16,7 @@ ghost use Rattle.reals.specs.Which.{real_by};
 ghost use Rattle.lists.specs.Items.{item_end, ItemAt, told_verdict, ShapeAt, items_in, list_by, list_of, Ready, filled, Kept, Held};
 ghost use Rattle.lists.specs.Answer.{roomed, count_of, CountedIn, told_fate, fated, mute, kind_of, values_of, next_by, fits_in, how_many, written};
 ghost use Rattle.scalars.specs.Answer.{number_of};
-ghost use Rattle.lists.specs.Lent.{item_value, lent_of, kind_room, fits_by, kept_at};
+ghost use Rattle.lists.specs.Lent.{item_value, lent_of, lent_in, SameRooms, kind_room, fits_in_rooms, kept_at};
 ghost use Rattle.lists.specs.Read.{list_read};
 
 use error::Fault;
@@ -122,6 +122,14 @@ pub fn shape_of(t: &[u8]) -> Shape
     Shape::Full
 }
 
+// The lent numbers: a room for each kind of item. Those of another kind than is read have no places.
+#[derive(Drop)]
+struct Rooms<'a> {
+    refs: &'a mut [u32],
+    wholes: &'a mut [i64],
+    reals: &'a mut [f64],
+}
+
 // Keeps a number at its place, if there is such a place.
 fn keep<T: Copy>(out: &mut [T], n: usize, v: T)
     ensures { out.new ≡ set out.old n v }
@@ -132,29 +140,23 @@ fn keep<T: Copy>(out: &mut [T], n: usize, v: T)
 }
 
 // Reads an item of its kind, and keeps it as the n-th of the numbers of that kind.
-fn take_item(
-    kind: Kind,
-    t: &[u8],
-    n: usize,
-    refs: &mut [u32],
-    wholes: &mut [i64],
-    reals: &mut [f64],
-) -> Result<(), NotRead>
+fn take_item(kind: Kind, t: &[u8], n: usize, rooms: &mut Rooms) -> Result<(), NotRead>
+    ensures same { SameRooms rooms.old rooms.new }
     ensures result_value { told_verdict result ≡ mute (item_value kind t.now) }
-    ensures reals_after { lent_of kind refs.new wholes.new reals.new
-        ≡ kept_at n (item_value kind t.now) (lent_of kind refs.old wholes.old reals.old) }
+    ensures reals_after { lent_in kind rooms.new
+        ≡ kept_at n (item_value kind t.now) (lent_in kind rooms.old) }
 {
     match kind {
         Kind::References => match reals::parse_ref(t) {
-            Some(v) => keep(refs, n, v),
+            Some(v) => keep(rooms.refs, n, v),
             None => return Err(NotRead::NotReal),
         },
         Kind::Integers => match reals::parse_int(t) {
-            Some(v) => keep(wholes, n, v),
+            Some(v) => keep(rooms.wholes, n, v),
             None => return Err(NotRead::NotReal),
         },
         Kind::Floats(which) => match reals::read_real(which, t) {
-            Ok(v) => keep(reals, n, v),
+            Ok(v) => keep(rooms.reals, n, v),
             Err(why) => return Err(why),
         },
         Kind::Any => {}
@@ -163,25 +165,20 @@ fn take_item(
 }
 
 // Reads the items of a list's inside and keeps the first of them, as many as there is room for; or finds the first bad one.
-fn take_items(
-    kind: Kind,
-    b: &[u8],
-    refs: &mut [u32],
-    wholes: &mut [i64],
-    reals: &mut [f64],
-) -> Result<usize, BadItem>
+fn take_items(kind: Kind, b: &[u8], rooms: &mut Rooms) -> Result<usize, BadItem>
+    ensures same { SameRooms rooms.old rooms.new }
     ensures result_value { told_fate result ≡ fated length (items_in (item_value kind) b.now) }
     ensures counted_in { CountedIn (length b.now + 1) result }
     ensures kept { Kept (items_in (item_value kind) b.now)
-        (lent_of kind refs.old wholes.old reals.old)
-        (lent_of kind refs.new wholes.new reals.new) }
+        (lent_in kind rooms.old)
+        (lent_in kind rooms.new) }
 {
     let mut i: usize = 0;
     let mut n: usize = 0;
     loop {
         let w = item_at(b, i);
         let t = &b[w.start..w.stop];
-        match take_item(kind, t, n, refs, wholes, reals) {
+        match take_item(kind, t, n, rooms) {
             Ok(()) => n += 1,
             Err(why) => {
                 return Err(BadItem {
@@ -198,18 +195,13 @@ fn take_items(
 }
 
 // Reads the items of a list and keeps the first of them, as many as there is room for; or finds what is wrong with it.
-fn take_list(
-    kind: Kind,
-    t: &[u8],
-    refs: &mut [u32],
-    wholes: &mut [i64],
-    reals: &mut [f64],
-) -> Result<usize, BadItem>
+fn take_list(kind: Kind, t: &[u8], rooms: &mut Rooms) -> Result<usize, BadItem>
+    ensures same { SameRooms rooms.old rooms.new }
     ensures result_value { told_fate result ≡ fated length (list_by (item_value kind) t.now) }
     ensures counted_in { CountedIn (length t.now) result }
     ensures kept { Kept (list_by (item_value kind) t.now)
-        (lent_of kind refs.old wholes.old reals.old)
-        (lent_of kind refs.new wholes.new reals.new) }
+        (lent_in kind rooms.old)
+        (lent_in kind rooms.new) }
 {
     match shape_of(t) {
         Shape::NotList => Err(BadItem {
@@ -219,7 +211,7 @@ fn take_list(
         Shape::Blank => Ok(0),
         Shape::Full => {
             let n = t.len();
-            match take_items(kind, &t[1..n - 1], refs, wholes, reals) {
+            match take_items(kind, &t[1..n - 1], rooms) {
                 Ok(k) => Ok(k),
                 Err(bad) => Err(bad.moved(1)),
             }
@@ -232,10 +224,12 @@ pub fn count_list(t: &[u8], kind: Kind) -> Result<usize, BadItem>
     ensures result_value { told_fate result ≡ fated length (list_by (kind_of kind) t.now) }
     ensures counted_in { CountedIn (length t.now) result }
 {
-    let mut refs: [u32; 0] = [];
-    let mut wholes: [i64; 0] = [];
-    let mut reals: [f64; 0] = [];
-    take_list(kind, t, &mut refs, &mut wholes, &mut reals)
+    let mut rooms = Rooms {
+        refs: &mut [],
+        wholes: &mut [],
+        reals: &mut [],
+    };
+    take_list(kind, t, &mut rooms)
 }
 
 // The one of three rooms that is for numbers of a kind; there is none for any items.
@@ -250,28 +244,43 @@ fn room_of(kind: Kind, refs: usize, wholes: usize, reals: usize) -> usize
     }
 }
 
+// Writes the first n of the reals that were kept.
+fn lay(first: &[f64], n: usize, out: &mut [f64])
+    requires { (n ≤ length first.now) × (n ≤ length out.old) }
+    ensures { out.new ≡ take n first.now ++ drop n out.old }
+{
+    out[..n].copy_from_slice(&first[..n]);
+}
+
 // Writes the n numbers of a list, the first of which were kept if they are reals: only what is not all kept is gone through again.
-fn write_list(
-    kind: Kind,
-    t: &[u8],
-    first: &[f64],
-    n: usize,
-    refs: &mut [u32],
-    wholes: &mut [i64],
-    reals: &mut [f64],
-)
-    requires ready { Ready (list_by (item_value kind) t.now) (kind_room kind (length refs.old) (length wholes.old) (length reals.old)) }
+fn write_list(kind: Kind, t: &[u8], first: &[f64], n: usize, rooms: &mut Rooms)
+    requires ready { Ready (list_by (item_value kind) t.now) (kind_room kind (length rooms.old.refs.now) (length rooms.old.wholes.now) (length rooms.old.reals.now)) }
     requires n_value { n ≡ length (values_of (list_by (item_value kind) t.now)) }
     requires held { Held (list_by (item_value kind) t.now) (lent_of kind [] [] first.now) }
-    ensures { lent_of kind refs.new wholes.new reals.new
-        ≡ filled (values_of (list_by (item_value kind) t.now)) (lent_of kind refs.old wholes.old reals.old) }
+    ensures same { SameRooms rooms.old rooms.new }
+    ensures reals_after { lent_in kind rooms.new
+        ≡ filled (values_of (list_by (item_value kind) t.now)) (lent_in kind rooms.old) }
 {
     if n <= room_of(kind, 0, 0, first.len()) {
-        reals[..n].copy_from_slice(&first[..n]);
+        lay(first, n, rooms.reals);
         return;
     }
     // It reads, as the first pass found.
-    let _ = take_list(kind, t, refs, wholes, reals);
+    let _ = take_list(kind, t, rooms);
+}
+
+// Goes through a list for the first time: it is counted, and the first of its reals are kept.
+fn first_pass(kind: Kind, t: &[u8], first: &mut [f64]) -> Result<usize, BadItem>
+    ensures result_value { told_fate result ≡ fated length (list_by (item_value kind) t.now) }
+    ensures counted_in { CountedIn (length t.now) result }
+    ensures kept { Kept (list_by (item_value kind) t.now) (lent_of kind [] [] first.old) (lent_of kind [] [] first.new) }
+{
+    let mut rooms = Rooms {
+        refs: &mut [],
+        wholes: &mut [],
+        reals: first,
+    };
+    take_list(kind, t, &mut rooms)
 }
 
 // Reads the text of a list, which starts at `start`, into the lent numbers of its kind. Most lists are the coordinates of one point, and a
@@ -281,26 +290,29 @@ fn read_list(
     start: usize,
     t: &[u8],
     first: &mut [f64],
-    refs: &mut [u32],
-    wholes: &mut [i64],
-    reals: &mut [f64],
+    rooms: &mut Rooms,
 ) -> Result<usize, Fault>
     requires { start + length t.now < 2 ^ 63 }
-    ensures result_value { told_result result ≡ count_of (roomed (fits_by kind refs.old wholes.old reals.old) start (list_by (item_value kind) t.now)) }
-    ensures reals_after { lent_of kind refs.new wholes.new reals.new
-        ≡ written (roomed (fits_by kind refs.old wholes.old reals.old) start (list_by (item_value kind) t.now))
-        (lent_of kind refs.old wholes.old reals.old) }
+    ensures same { SameRooms rooms.old rooms.new }
+    ensures result_value { told_result result ≡ count_of (roomed (fits_in_rooms kind rooms.old) start (list_by (item_value kind) t.now)) }
+    ensures reals_after { lent_in kind rooms.new
+        ≡ written (roomed (fits_in_rooms kind rooms.old) start (list_by (item_value kind) t.now))
+        (lent_in kind rooms.old) }
 {
-    let mut no_refs: [u32; 0] = [];
-    let mut no_wholes: [i64; 0] = [];
-    let n = match take_list(kind, t, &mut no_refs, &mut no_wholes, first) {
+    let n = match first_pass(kind, t, first) {
         Ok(n) => n,
         Err(bad) => return Err(bad.fault(start)),
     };
-    if room_of(kind, refs.len(), wholes.len(), reals.len()) < n {
+    if room_of(
+        kind,
+        rooms.refs.len(),
+        rooms.wholes.len(),
+        rooms.reals.len(),
+    ) < n
+    {
         return Err(Fault::TooShort(start));
     }
-    write_list(kind, t, first, n, refs, wholes, reals);
+    write_list(kind, t, first, n, rooms);
     Ok(n)
 }
 
@@ -309,18 +321,12 @@ pub fn read_refs(t: &[u8], out: &mut [u32]) -> Result<usize, Fault>
     ensures result_value { told_result result ≡ count_of (roomed (fits_in (length out.old)) 0 (list_of reference_of t.now)) }
     ensures out_after { out.new ≡ written (roomed (fits_in (length out.old)) 0 (list_of reference_of t.now)) out.old }
 {
-    let mut first: [f64; 0] = [];
-    let mut wholes: [i64; 0] = [];
-    let mut reals: [f64; 0] = [];
-    read_list(
-        Kind::References,
-        0,
-        t,
-        &mut first,
-        out,
-        &mut wholes,
-        &mut reals,
-    )
+    let mut rooms = Rooms {
+        refs: out,
+        wholes: &mut [],
+        reals: &mut [],
+    };
+    read_list(Kind::References, 0, t, &mut [], &mut rooms)
 }
 
 // Reads the text of a list of integers into lent numbers; places are told from the text's start.
@@ -328,10 +334,12 @@ pub fn read_wholes(t: &[u8], out: &mut [i64]) -> Result<usize, Fault>
     ensures result_value { told_result result ≡ count_of (roomed (fits_in (length out.old)) 0 (list_of whole_of t.now)) }
     ensures out_after { out.new ≡ written (roomed (fits_in (length out.old)) 0 (list_of whole_of t.now)) out.old }
 {
-    let mut first: [f64; 0] = [];
-    let mut refs: [u32; 0] = [];
-    let mut reals: [f64; 0] = [];
-    read_list(Kind::Integers, 0, t, &mut first, &mut refs, out, &mut reals)
+    let mut rooms = Rooms {
+        refs: &mut [],
+        wholes: out,
+        reals: &mut [],
+    };
+    read_list(Kind::Integers, 0, t, &mut [], &mut rooms)
 }
 
 // Reads the text of a list of reals into lent numbers; places are told from the text's start.
@@ -341,17 +349,12 @@ pub fn read_reals(which: Reals, t: &[u8], out: &mut [f64]) -> Result<usize, Faul
         ≡ written (roomed (fits_in (length out.old)) 0 (list_of (real_by which) t.now)) (map (to_bits binary64) out.old) }
 {
     let mut first = [0.0; 16];
-    let mut refs: [u32; 0] = [];
-    let mut wholes: [i64; 0] = [];
-    read_list(
-        Kind::Floats(which),
-        0,
-        t,
-        &mut first,
-        &mut refs,
-        &mut wholes,
-        out,
-    )
+    let mut rooms = Rooms {
+        refs: &mut [],
+        wholes: &mut [],
+        reals: out,
+    };
+    read_list(Kind::Floats(which), 0, t, &mut first, &mut rooms)
 }
 
 // Reads a list into the lent numbers of its kind.
@@ -360,19 +363,18 @@ fn next_list(
     file: &[u8],
     at: &mut State,
     first: &mut [f64],
-    refs: &mut [u32],
-    wholes: &mut [i64],
-    reals: &mut [f64],
+    rooms: &mut Rooms,
 ) -> Result<usize, Fault>
+    ensures same { SameRooms rooms.old rooms.new }
     ensures result_value { told_read result at.new
-        ≡ how_many (next_by (list_by (item_value kind)) (fits_by kind refs.old wholes.old reals.old) file.now at.old.place at.old.end) }
-    ensures reals_after { lent_of kind refs.new wholes.new reals.new
-        ≡ written (next_by (list_by (item_value kind)) (fits_by kind refs.old wholes.old reals.old) file.now at.old.place at.old.end).answer
-        (lent_of kind refs.old wholes.old reals.old) }
+        ≡ how_many (next_by (list_by (item_value kind)) (fits_in_rooms kind rooms.old) file.now at.old.place at.old.end) }
+    ensures reals_after { lent_in kind rooms.new
+        ≡ written (next_by (list_by (item_value kind)) (fits_in_rooms kind rooms.old) file.now at.old.place at.old.end).answer
+        (lent_in kind rooms.old) }
 {
     let w = params::param_span(file, at)?;
     let t = &file[w.start..w.stop];
-    read_list(kind, w.start, t, first, refs, wholes, reals)
+    read_list(kind, w.start, t, first, rooms)
 }
 
 // Reads a list of references into lent numbers.
@@ -380,18 +382,12 @@ pub fn next_ref_list(file: &[u8], at: &mut State, out: &mut [u32]) -> Result<usi
     ensures result_value { told_read result at.new ≡ how_many (list_read reference_of (length out.old) file.now at.old.place at.old.end) }
     ensures out_after { out.new ≡ written (list_read reference_of (length out.old) file.now at.old.place at.old.end).answer out.old }
 {
-    let mut first: [f64; 0] = [];
-    let mut wholes: [i64; 0] = [];
-    let mut reals: [f64; 0] = [];
-    next_list(
-        Kind::References,
-        file,
-        at,
-        &mut first,
-        out,
-        &mut wholes,
-        &mut reals,
-    )
+    let mut rooms = Rooms {
+        refs: out,
+        wholes: &mut [],
+        reals: &mut [],
+    };
+    next_list(Kind::References, file, at, &mut [], &mut rooms)
 }
 
 // Reads a list of integers into lent numbers.
@@ -399,18 +395,12 @@ pub fn next_i64_list(file: &[u8], at: &mut State, out: &mut [i64]) -> Result<usi
     ensures result_value { told_read result at.new ≡ how_many (list_read whole_of (length out.old) file.now at.old.place at.old.end) }
     ensures out_after { out.new ≡ written (list_read whole_of (length out.old) file.now at.old.place at.old.end).answer out.old }
 {
-    let mut first: [f64; 0] = [];
-    let mut refs: [u32; 0] = [];
-    let mut reals: [f64; 0] = [];
-    next_list(
-        Kind::Integers,
-        file,
-        at,
-        &mut first,
-        &mut refs,
-        out,
-        &mut reals,
-    )
+    let mut rooms = Rooms {
+        refs: &mut [],
+        wholes: out,
+        reals: &mut [],
+    };
+    next_list(Kind::Integers, file, at, &mut [], &mut rooms)
 }
 
 // Reads a list of reals, of the class or any, into lent numbers.
@@ -425,17 +415,12 @@ pub fn next_real_list(
         ≡ written (list_read (real_by which) (length out.old) file.now at.old.place at.old.end).answer (map (to_bits binary64) out.old) }
 {
     let mut first = [0.0; 16];
-    let mut refs: [u32; 0] = [];
-    let mut wholes: [i64; 0] = [];
-    next_list(
-        Kind::Floats(which),
-        file,
-        at,
-        &mut first,
-        &mut refs,
-        &mut wholes,
-        out,
-    )
+    let mut rooms = Rooms {
+        refs: &mut [],
+        wholes: &mut [],
+        reals: out,
+    };
+    next_list(Kind::Floats(which), file, at, &mut first, &mut rooms)
 }
 
 // Reads a list of reals of the class into lent numbers.

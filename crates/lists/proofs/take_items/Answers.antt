@@ -1,7 +1,7 @@
 use Rattle.lists.specs.Keep.{keeping_starts, keeping_bad, keeping_last, keeping_goes}
 use Rattle.scalars.specs.Answer.{number_of}
 use Rattle.lists.specs.Answer.{faulty}
-use Rattle.lists.specs.Lent.{item_value, lent_of}
+use Rattle.lists.specs.Lent.{item_value, lent_in, same_rooms}
 use native.Mathlib.Omega.{arith}
 use mathlib.Core.Path.{◌≡◌, refl, ap, ◌∙◌}
 use Prim.Native.Nat.{◌+◌}
@@ -9,7 +9,7 @@ use Rattle.lists.proofs.take_items.Goals as goal
 
 pub loop-n-init : goal.loop-n-init
 loop-n-init c = let t = c.args in
-    (keeping_starts (item_value t.kind) t.b.now (lent_of t.kind t.refs.now t.wholes.now t.reals.now), (refl, (refl, refl)))
+    (keeping_starts (item_value t.kind) t.b.now (lent_in t.kind t.rooms.now), (refl, refl, refl, refl, refl, refl))
 
 pub slice_bounds-t-count : goal.slice_bounds-t-count
 slice_bounds-t-count c = c.item_at-w.ensures.ordered
@@ -28,12 +28,12 @@ returns-in-Err c = let t = c.args in
     let why = number_of c.in-Err.why in
     let e : c.item_at-w.result.start ≡ c.item_at-w.result.start + 0 = omega arith in
     let (x, y) = keeping_bad (item_value t.kind) t.b.now _ _ _ _ _ c.loop-n.invariant.0 c.item_at-w.result c.item_at-w.ensures c.take_item.ensures.reals_after why 0 c.in-Err.ensures.result_value in
-    record { result_value = ap (faulty why) e ∙ x; counted_in = omega (arith, c.item_at-w.ensures.ordered, c.item_at-w.ensures.short, c.item_at-w.ensures.within); kept = y }
+    record { same = same_rooms c.args.rooms.now c.loop-n.rooms c.take_item.new.rooms c.loop-n.invariant.1 c.take_item.ensures.same; result_value = ap (faulty why) e ∙ x; counted_in = omega (arith, c.item_at-w.ensures.ordered, c.item_at-w.ensures.short, c.item_at-w.ensures.within); kept = y }
 
 pub returns-then-w-b : goal.returns-then-w-b
 returns-then-w-b c = let t = c.args in
     let (x, y) = keeping_last (item_value t.kind) t.b.now _ _ _ _ _ c.loop-n.invariant.0 c.item_at-w.result c.item_at-w.ensures c.take_item.ensures.reals_after c.in-Ok.ensures.result_value c.if-w-b.true in
-    record { result_value = x; counted_in = omega (arith, c.loop-n.invariant.0.few, c.loop-n.invariant.0.within); kept = y }
+    record { same = same_rooms c.args.rooms.now c.loop-n.rooms c.take_item.new.rooms c.loop-n.invariant.1 c.take_item.ensures.same; result_value = x; counted_in = omega (arith, c.loop-n.invariant.0.few, c.loop-n.invariant.0.within); kept = y }
 
 pub overflow_add-i : goal.overflow_add-i
 overflow_add-i c = omega (arith, c.item_at-w.ensures.within)
@@ -43,4 +43,4 @@ loop-n-smaller c = omega (arith, c.item_at-w.ensures.within, c.item_at-w.ensures
 
 pub loop-n-preserved : goal.loop-n-preserved
 loop-n-preserved c = let t = c.args in
-    (keeping_goes (item_value t.kind) t.b.now _ _ _ _ _ c.loop-n.invariant.0 c.item_at-w.result c.item_at-w.ensures c.take_item.ensures.reals_after c.in-Ok.ensures.result_value (omega (arith, c.item_at-w.ensures.within, c.if-w-b.false)), (omega arith, (omega arith, omega arith)))
+    (keeping_goes (item_value t.kind) t.b.now _ _ _ _ _ c.loop-n.invariant.0 c.item_at-w.result c.item_at-w.ensures c.take_item.ensures.reals_after c.in-Ok.ensures.result_value (omega (arith, c.item_at-w.ensures.within, c.if-w-b.false)), same_rooms c.args.rooms.now c.loop-n.rooms c.take_item.new.rooms c.loop-n.invariant.1 c.take_item.ensures.same)
