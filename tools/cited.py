@@ -28,7 +28,7 @@ FOREIGN = {'std', 'str', 'char', 'f64', 'hooflift', 'StepFile'}
 TASKS = {'list', 'scale', 'show', 'inspect'}
 # names that are not ours: of the Rust original, of what the kit generates, of files and packages; and names of ours that are said to be gone
 OTHERS = set('''
-StepFile from_bytes DanglingRef args_checked as_ref_id kind_histogram keyword_histogram is_surface is_curve Kind::Line
+StepFile from_bytes DanglingRef args_checked next_value as_ref_id kind_histogram keyword_histogram is_surface is_curve Kind::Line
 Lts.antt CLOCK_THREAD_CPUTIME_ID ISO-10303-21 END-ISO-10303-21 E-655360 kicad-packages3d
 carried lex::far_text quick_at said_at unclosed_at
 '''.split())
@@ -38,7 +38,7 @@ NAME = r"[^\W\d_][\w\-′]*"
 # a declaration, a field or a constructor: one name after `data` or `record`, else all before the colon
 DECLARED = re.compile(r'^ *(?:(?:unfoldable|abbrev|pub|axiom) )*'
                       r'(?:(?:data|record) (\S+)|([^\s:(){};,-][^\s:(){};,]*(?: [^\s:(){};,→=]+)*) :(?:\s|$))')
-CODED = re.compile(r'\b(?:fn|struct|enum|const|static|type|mod)\s+(\w+)')
+CODED = re.compile(r'\b(?:fn|struct|enum|const|static|type|mod|trait)\s+(\w+)')
 
 
 def read(path):
