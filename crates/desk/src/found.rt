@@ -1,7 +1,7 @@
 // What a task finds in a file's bytes, and what is said of it.
 use crate::command::Task;
 use crate::numerals::Decimal;
-use crate::{old, show, shown};
+use crate::{show, shown};
 use error::Fault;
 use input::{Output, TableRooms};
 use scan::Counts;
