@@ -58,6 +58,8 @@ class Spec:
             line = self.lines[i]
             if line.strip() == '' or re.match(r'^(pub )?mod\b', line):
                 i += 1
+            elif line.startswith('--') and re.match(r'(--[^\n]*\n)+pub use ', '\n'.join(self.lines[i:])):
+                i += 1  # a comment above a name that is passed on
             elif re.match(r'^(pub )?use\b', line):
                 j = i
                 while '{' in line and '}' not in self.lines[j]:

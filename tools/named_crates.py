@@ -13,9 +13,9 @@ import sys
 
 ROOT = os.path.dirname(os.path.dirname(os.path.abspath(__file__)))
 KIT = ['io', 'bytes', 'check']
-# Crates that declare a type of which a function has a value and no name: the fields of `r` are read in `HeaderFound::Span(r)`,
-# and a kind goes from `host_numbers::kind_by` to `parts::complex_part`.
-REACHED = {'export_records': ['statement', 'kinds'], 'compare_output': ['error', 'input']}
+# Crates that declare a type of which a function has a value and no name: in `export_records` a kind goes from `host_numbers::kind_by` to
+# `parts::complex_part`, and what that answers on to `host_numbers::put_part`; in `compare_output` a fault goes from `store::open` to what is put.
+REACHED = {'export_records': ['statement', 'kinds'], 'compare_output': ['error']}
 
 
 def text_of(crate):
