@@ -38,6 +38,7 @@ fn count_rows(b: &[u8], kind: Kind) -> Result<Size, BadItem>
     let mut i: usize = 0;
     let mut rows: usize = 0;
     let mut numbers: usize = 0;
+    // Kept: where the next row begins is found with this one; an iterator that hides that would be longer than the loop.
     loop {
         let w = lists::item_at(b, i);
         match lists::count_list(&b[w.start..w.stop], kind) {
@@ -116,6 +117,7 @@ fn fill_rows(kind: Kind, b: &[u8], refs: &mut [u32], reals: &mut [f64], ends: &m
     let mut i: usize = 0;
     let mut rows: usize = 0;
     let mut numbers: usize = 0;
+    // Kept: where the next row begins is found with this one; an iterator that hides that would be longer than the loop.
     loop {
         let w = lists::item_at(b, i);
         let k = fill_row(kind, &b[w.start..w.stop], numbers, refs, reals);

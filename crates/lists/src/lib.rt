@@ -175,6 +175,7 @@ fn take_items(kind: Kind, b: &[u8], rooms: &mut Rooms) -> Result<usize, BadItem>
 {
     let mut i: usize = 0;
     let mut n: usize = 0;
+    // Kept: where the next item begins is found with this one; an iterator that hides that would be longer than the loop.
     loop {
         let w = item_at(b, i);
         let t = &b[w.start..w.stop];

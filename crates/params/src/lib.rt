@@ -158,6 +158,7 @@ pub fn param_end(part: &[u8], start: usize) -> Result<Cut, usize>
         solid: from,
         depth: 0,
     };
+    // Kept: the token that stands there says where the search goes on, so that no `for` counts the place.
     while s.at < part.len() {
         let b = part[s.at];
         if b > b'/' {

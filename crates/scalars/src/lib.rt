@@ -117,6 +117,7 @@ pub fn refused_real(why: NotRead, place: usize) -> Fault
 }
 
 // Reads a reference.
+// Kept: beside `next_i64`, since each is two lines; a call of one function over a closure is no shorter.
 pub fn next_ref(file: &[u8], at: &mut State) -> Result<u32, Fault>
     ensures { told_read result at.new ≡ next_of reference_of file.now at.old.place at.old.end }
 {
