@@ -11,18 +11,8 @@ ghost use Rattle.units.specs.Answer.{told_units};
 ghost use Rattle.serve.specs.Serve.{told_served, record_in, units_of, OpeningLeaves};
 
 use error::Fault;
-use lookup::Entry;
 use statement::RecordSpan;
-use store::OpenedFile;
-use units::Resolved;
-
-// The record of an id, none, or why the file is refused.
-#[derive(Clone, Copy)]
-pub enum Served {
-    Row(RecordSpan),
-    Nothing,
-    Refused(Fault),
-}
+use units::Values;
 
 // The record of an id in a file: the last of that id.
 pub fn record_of(
@@ -31,26 +21,24 @@ pub fn record_of(
     rows: &mut [u32],
     slots: &mut [u64],
     id: u32,
-) -> Served
+) -> Result<Option<RecordSpan>, Fault>
     ensures result_value { told_served result ≡ onward (record_in id) (scan_into file.now headers.old rows.old slots.old) }
     ensures opening_leaves { OpeningLeaves file.now headers.old rows.old slots.old headers.new rows.new slots.new }
 {
-    match store::open(file, headers, rows, slots) {
-        OpenedFile::Refused(f) => Served::Refused(f),
-        OpenedFile::Good(t) => match lookup::get(rows, slots, t, id) {
-            Entry::Row(w) => Served::Row(w),
-            Entry::Nothing => Served::Nothing,
-        },
-    }
+    let t = store::open(file, headers, rows, slots)?;
+    Ok(lookup::get(rows, slots, t, id))
 }
 
 // The unit answer of a file.
-pub fn units_of(file: &[u8], headers: &mut [u32], rows: &mut [u32], slots: &mut [u64]) -> Resolved
+pub fn units_of(
+    file: &[u8],
+    headers: &mut [u32],
+    rows: &mut [u32],
+    slots: &mut [u64],
+) -> Result<Values, Fault>
     ensures result_value { told_units result ≡ onward (units_of file.now) (scan_into file.now headers.old rows.old slots.old) }
     ensures opening_leaves { OpeningLeaves file.now headers.old rows.old slots.old headers.new rows.new slots.new }
 {
-    match store::open(file, headers, rows, slots) {
-        OpenedFile::Refused(f) => Resolved::Refused(f),
-        OpenedFile::Good(t) => units::resolve(file, rows, slots, t),
-    }
+    let t = store::open(file, headers, rows, slots)?;
+    units::resolve(file, rows, slots, t)
 }
