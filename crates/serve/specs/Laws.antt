@@ -26,7 +26,7 @@ use Rattle.serve.specs.Serve.{record_in, units_of, OpeningLeaves}
 
 module _ (s heads rows slots : List ℕ) where
   module _ (f : Fault) {heads' rows' slots' : List ℕ} (opens : OpensFile s heads rows slots (Err f) heads' rows' slots') where
-    -- a file that is not promised is refused by the scan
+    -- a file that is not opened is refused by the scan
     pub refused_scan : scan_into s heads rows slots ≡ bad (told f)
     refused_scan = go (scan_into s heads rows slots) opens.answer
       where
@@ -34,7 +34,7 @@ module _ (s heads rows slots : List ℕ) where
         go (good t) e = clash (cc)
         go (bad q) e = cc
 
-    -- whatever is asked of a file that is not promised is refused as the scan refuses it
+    -- whatever is asked of a file that is not opened is refused as the scan refuses it
     pub refused_all : {A : Type 0} (g : Table → Told A) → bad (told f) ≡ onward g (scan_into s heads rows slots)
     refused_all g = rw refused_scan refl
 
@@ -86,12 +86,12 @@ module _ {s heads rows slots heads' rows' slots' : List ℕ} where
   refused_out g f o = (refused_all s heads rows slots f o g, (Err f, o))
 
   module _ (a : Tables) (o : OpensFile s heads rows slots (Ok a) heads' rows' slots') where
-    -- for a file that is promised, what `resolve` answers is its unit answer, and the memory is as opening leaves it
+    -- for a file that is opened, what `resolve` answers is its unit answer, and the memory is as opening leaves it
     pub units_out : (x : Told Units) → x ≡ resolve_of s (find_of s (row_for rows' slots' a.ids)) (seen_records_from s (row_numbers rows') (table_rows rows' a.records) 0)
         → (x ≡ onward (units_of s) (scan_into s heads rows slots)) × OpeningLeaves s heads rows slots heads' rows' slots'
     units_out x e = (e ∙ units_are s heads rows slots a o, (Ok a, o))
 
-    -- for a file that is promised, what `get` answers is its record of the id, and the memory is as opening leaves it
+    -- for a file that is opened, what `get` answers is its record of the id, and the memory is as opening leaves it
     pub record_out : (k : ℕ) (x : Option Row) → x ≡ row_found rows' (searched rows' slots' a.ids k)
         → (good x ≡ onward (record_in k) (scan_into s heads rows slots)) × OpeningLeaves s heads rows slots heads' rows' slots'
     record_out k x e = (ap good e ∙ record_is s heads rows slots a o k, (Ok a, o))
