@@ -1,7 +1,6 @@
 -- A host's lookup answers like the map, and what it is left with is settled. Assumes nothing.
-use Rattle.std.specs.Prelude.{ℕ, ◌-◌, ◌≤◌, ◌<◌, min, ◌≡◌, Bool, true, false, ◌&&◌, List, leb, eqb, length, get_or}
+use Rattle.std.specs.Prelude.{ℕ, ◌-◌, ◌≤◌, ◌<◌, min, ◌≡◌, Bool, true, false, ◌&&◌, List, leb, eqb, length, get_or, Some}
 use Rattle.std.proofs.Common.{sym, ◌∙◌, ap, subst, arith, leb-true}
-use Rattle.std.proofs.Math.Option.{some}
 use Rattle.std.proofs.lemmas.List.Edits.{sets}
 use Rattle.common.specs.Tests.{both}
 use Rattle.common.specs.Pick.{pick}
@@ -72,5 +71,5 @@ host_right {rows} {slots} {after} {ids} {told} {count} h w (built g b e f) k = a
     small x r q = subst (λ (y : ℕ). y < 4294967296) (sym q) (either (eqb room 0) r)
 
 -- no row has the number that says that there is none
-pub row_told : (rows slots : List ℕ) (b : Ids) (k r : ℕ) → searched rows slots b k ≡ some r → r < 4294967295
+pub row_told : (rows slots : List ℕ) (b : Ids) (k r : ℕ) → searched rows slots b k ≡ Some r → r < 4294967295
 row_told rows slots b k r e = let h = (found_safe rows slots b k r e).0 in omega arith

@@ -13,8 +13,9 @@ use reals::Reals;
 pub fn hooflift_skip(file: &[u8], place: &mut usize, end: usize, fault: &mut usize) -> u8
     ensures { HostReaderTold (skip_of file.now place.old end) result place fault }
 {
-    let at = State { place: *place, end };
-    host_numbers::put_skipped(params::skip(file, at), place, fault)
+    let mut at = State { place: *place, end };
+    let r = params::skip(file, &mut at);
+    host_numbers::put_past(r, at, place, fault)
 }
 
 // Reads a list of reals into `out`: 0, with how many in `count`; or the refusal's number, with its place in `fault`.
@@ -30,8 +31,9 @@ pub fn hooflift_f64_list(
     ensures puts_reals { PutsReals (list_read real_of (length out.old) file.now place.old end).answer out }
     ensures puts { Puts (λ n. n) (how_many (list_read real_of (length out.old) file.now place.old end)).answer count }
 {
-    let at = State { place: *place, end };
-    host_numbers::put_list(lists::next_f64_list(file, at, out), place, count, fault)
+    let mut at = State { place: *place, end };
+    let r = lists::next_f64_list(file, &mut at, out);
+    host_numbers::put_read(r, at, place, count, fault)
 }
 
 // Reads a list of any reals: as `hooflift_f64_list`, and never 13.
@@ -47,7 +49,7 @@ pub fn hooflift_any_f64_list(
     ensures puts_reals { PutsReals (list_read any_real_of (length out.old) file.now place.old end).answer out }
     ensures puts { Puts (λ n. n) (how_many (list_read any_real_of (length out.old) file.now place.old end)).answer count }
 {
-    let at = State { place: *place, end };
-    let r = lists::next_real_list(Reals::Any, file, at, out);
-    host_numbers::put_list(r, place, count, fault)
+    let mut at = State { place: *place, end };
+    let r = lists::next_real_list(Reals::Any, file, &mut at, out);
+    host_numbers::put_read(r, at, place, count, fault)
 }

@@ -4,7 +4,7 @@ ghost use Rattle.reals.specs.Scalar.{real_of, any_real_of};
 ghost use Rattle.reals.specs.Which.{real_by};
 ghost use Rattle.export.specs.Reals.{real_code, real_bits};
 
-use reals::{Real, Reals};
+use reals::{NotRead, Reals};
 
 // Reads a real, of the class or any: what both functions below answer and leave.
 fn put_bits(which: Reals, text: &[u8], out: &mut u64) -> u8
@@ -12,12 +12,12 @@ fn put_bits(which: Reals, text: &[u8], out: &mut u64) -> u8
     ensures out_after { out.new ≡ real_bits (real_by which text.now) out.old }
 {
     match reals::read_real(which, text) {
-        Real::Value(x) => {
+        Ok(x) => {
             *out = nearest::bits(x);
             0
         }
-        Real::Outside => 13,
-        Real::NotReal => 12,
+        Err(NotRead::Outside) => 13,
+        Err(NotRead::NotReal) => 12,
     }
 }
 

@@ -14,19 +14,20 @@ pub fn hooflift_text(raw: &[u8], out: &mut [u8], place: &mut u64, count: &mut u6
     ensures place_after { place.new ≡ text_place (decoded_of raw.now (length out.old)) place.old }
     ensures count_after { count.new ≡ text_count (decoded_of raw.now (length out.old)) (length raw.now) count.old }
 {
-    match strings::decode_string(raw, out) {
+    let Some(text) = strings::decode_string(raw, out) else {
+        return 16;
+    };
+    match text {
         Decoded::Plain => {
             *place = 0;
             *count = raw.len() as u64;
-            0
         }
         Decoded::Written(n) => {
             *place = 1;
             *count = n as u64;
-            0
         }
-        Decoded::Short => 16,
     }
+    0
 }
 
 // How many bytes a string's text has: what `hooflift_text` needs of `out` at most. 18446744073709551615 stands for more.
