@@ -1,12 +1,15 @@
 // Lists and grids, for hosts in other languages: in lent numbers, and for grids the row ends in others.
 ghost use Rattle.std.specs.Prelude.{length};
 ghost use Rattle.reals.specs.Scalar.{reference_of, whole_of, real_of, any_real_of};
+ghost use Rattle.params.specs.Answer.{told_read};
 ghost use Rattle.lists.specs.Answer.{how_many};
 ghost use Rattle.lists.specs.Read.{list_read};
-ghost use Rattle.grids.specs.Grid.{grid_read, how_large, numbers_of, ends_of, told_next_grid};
+ghost use Rattle.grids.specs.Grid.{grid_read, how_large, numbers_of, ends_of};
 ghost use Rattle.host_numbers.specs.Answers.{HostReaderTold, Puts, PutsList, PutsReals};
 
-use grids::NextGrid;
+use crate::reading;
+use error::Fault;
+use grids::Size;
 use params::State;
 use reals::Reals;
 
@@ -23,8 +26,9 @@ pub fn hooflift_ref_list(
     ensures puts_list { PutsList (list_read reference_of (length out.old) file.now place.old end).answer out }
     ensures puts { Puts (λ n. n) (how_many (list_read reference_of (length out.old) file.now place.old end)).answer count }
 {
-    let at = State { place: *place, end };
-    host_numbers::put_list(lists::next_ref_list(file, at, out), place, count, fault)
+    let mut at = State { place: *place, end };
+    let r = lists::next_ref_list(file, &mut at, out);
+    host_numbers::put_read(r, at, place, count, fault)
 }
 
 // Reads a list of integers into `out`: 0, with how many in `count`.
@@ -40,31 +44,29 @@ pub fn hooflift_i64_list(
     ensures puts_list { PutsList (list_read whole_of (length out.old) file.now place.old end).answer out }
     ensures puts { Puts (λ n. n) (how_many (list_read whole_of (length out.old) file.now place.old end)).answer count }
 {
-    let at = State { place: *place, end };
-    host_numbers::put_list(lists::next_i64_list(file, at, out), place, count, fault)
+    let mut at = State { place: *place, end };
+    let r = lists::next_i64_list(file, &mut at, out);
+    host_numbers::put_read(r, at, place, count, fault)
 }
 
 // What a reader of a grid answers and leaves: how many numbers it has goes to `count`, and how many rows to `rows`.
 fn put_grid(
-    r: NextGrid,
+    r: Result<Size, Fault>,
+    at: State,
     place: &mut usize,
     count: &mut usize,
     rows: &mut usize,
     fault: &mut usize,
 ) -> u8
-    ensures host_reader_told { HostReaderTold (told_next_grid r) result place fault }
-    ensures puts { Puts (λ s. s.numbers) (told_next_grid r).answer count }
-    ensures puts_2 { Puts (λ s. s.rows) (told_next_grid r).answer rows }
+    ensures host_reader_told { HostReaderTold (told_read r at) result place fault }
+    ensures puts { Puts (λ s. s.numbers) (told_read r at).answer count }
+    ensures puts_2 { Puts (λ s. s.rows) (told_read r at).answer rows }
 {
-    match r {
-        NextGrid::Count(high, n, to) => {
-            *place = to.place;
-            *count = n;
-            *rows = high;
-            0
-        }
-        NextGrid::Refused(f, to) => host_numbers::put_refusal(f, to, place, fault),
+    if let Ok(size) = r {
+        *count = size.numbers;
+        *rows = size.rows;
     }
+    reading::put_place(r, at, place, fault)
 }
 
 // Reads a list of lists of references: 0, with all its numbers in `out` and how many in `count`, and where each row ends in `ends` and how many
@@ -85,9 +87,9 @@ pub fn hooflift_ref_grid(
     ensures puts { Puts (λ s. s.numbers) (how_large (grid_read reference_of (length out.old) (length ends.old) file.now place.old end)).answer count }
     ensures puts_2 { Puts (λ s. s.rows) (how_large (grid_read reference_of (length out.old) (length ends.old) file.now place.old end)).answer rows }
 {
-    let at = State { place: *place, end };
-    let r = grids::next_ref_grid(file, at, out, ends);
-    put_grid(r, place, count, rows, fault)
+    let mut at = State { place: *place, end };
+    let r = grids::next_ref_grid(file, &mut at, out, ends);
+    put_grid(r, at, place, count, rows, fault)
 }
 
 // Reads a list of lists of reals: 0, with all its numbers in `out` and how many in `count`, and where each row ends in `ends` and how many
@@ -108,9 +110,9 @@ pub fn hooflift_f64_grid(
     ensures puts { Puts (λ s. s.numbers) (how_large (grid_read real_of (length out.old) (length ends.old) file.now place.old end)).answer count }
     ensures puts_2 { Puts (λ s. s.rows) (how_large (grid_read real_of (length out.old) (length ends.old) file.now place.old end)).answer rows }
 {
-    let at = State { place: *place, end };
-    let r = grids::next_f64_grid(file, at, out, ends);
-    put_grid(r, place, count, rows, fault)
+    let mut at = State { place: *place, end };
+    let r = grids::next_f64_grid(file, &mut at, out, ends);
+    put_grid(r, at, place, count, rows, fault)
 }
 
 // Reads a list of lists of any reals: as `hooflift_f64_grid`, and never 13.
@@ -130,7 +132,7 @@ pub fn hooflift_any_f64_grid(
     ensures puts { Puts (λ s. s.numbers) (how_large (grid_read any_real_of (length out.old) (length ends.old) file.now place.old end)).answer count }
     ensures puts_2 { Puts (λ s. s.rows) (how_large (grid_read any_real_of (length out.old) (length ends.old) file.now place.old end)).answer rows }
 {
-    let at = State { place: *place, end };
-    let r = grids::next_real_grid(Reals::Any, file, at, out, ends);
-    put_grid(r, place, count, rows, fault)
+    let mut at = State { place: *place, end };
+    let r = grids::next_real_grid(Reals::Any, file, &mut at, out, ends);
+    put_grid(r, at, place, count, rows, fault)
 }

@@ -5,15 +5,16 @@ ghost use Rattle.params.specs.Skips.{empty_of, skips_of};
 ghost use Rattle.params.specs.Answer.{opened_of};
 ghost use Rattle.host_numbers.specs.Answers.{HostReaderTold, Puts, read_code, truth_number};
 
-use params::{Emptiness, NextParam, OpenedReader, State};
+use crate::reading;
+use params::State;
 
 // Whether a reader from `place` up to `end` lies in the file: 0, or 9.
 pub fn hooflift_new(file: &[u8], place: usize, end: usize) -> u8
     ensures { result ≡ read_code (opened_of file.now place end) }
 {
     match params::new(file, place, end) {
-        OpenedReader::Reader(_) => 0,
-        OpenedReader::Refused(f) => error::number(f),
+        Ok(_) => 0,
+        Err(f) => f.number(),
     }
 }
 
@@ -30,16 +31,7 @@ pub fn hooflift_param(
     ensures puts { Puts (λ x. x.start) (param_of file.now place.old end).answer start }
     ensures puts_2 { Puts (λ x. x.stop) (param_of file.now place.old end).answer stop }
 {
-    let at = State { place: *place, end };
-    match params::param_span(file, at) {
-        NextParam::Span(a, z, to) => {
-            *place = to.place;
-            *start = a;
-            *stop = z;
-            0
-        }
-        NextParam::Refused(f, to) => host_numbers::put_refusal(f, to, place, fault),
-    }
+    reading::span_at(params::param_span, file, place, end, start, stop, fault)
 }
 
 // Whether no parameter is left: 0, with 1 or 0 in `empty`. The reader goes past the trivia.
@@ -53,15 +45,12 @@ pub fn hooflift_is_empty(
     ensures host_reader_told { HostReaderTold (empty_of file.now place.old end) result place fault }
     ensures puts { Puts truth_number (empty_of file.now place.old end).answer empty }
 {
-    let at = State { place: *place, end };
-    match params::is_empty(file, at) {
-        Emptiness::Empty(b, to) => {
-            *place = to.place;
-            *empty = host_numbers::number_of(b);
-            0
-        }
-        Emptiness::Refused(f, to) => host_numbers::put_refusal(f, to, place, fault),
+    let mut at = State { place: *place, end };
+    let r = params::is_empty(file, &mut at);
+    if let Ok(b) = r {
+        *empty = u8::from(b);
     }
+    reading::put_place(r, at, place, fault)
 }
 
 // Goes past `count` parameters, up to the first refusal.
@@ -74,6 +63,7 @@ pub fn hooflift_skip_n(
 ) -> u8
     ensures { HostReaderTold (skips_of count file.now place.old end) result place fault }
 {
-    let at = State { place: *place, end };
-    host_numbers::put_skipped(params::skip_n(file, at, count), place, fault)
+    let mut at = State { place: *place, end };
+    let r = params::skip_n(file, &mut at, count);
+    host_numbers::put_past(r, at, place, fault)
 }

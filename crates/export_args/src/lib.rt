@@ -4,6 +4,7 @@
 
 mod arrays;
 mod cuts;
+mod reading;
 mod texts;
 mod values;
 

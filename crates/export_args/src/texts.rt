@@ -6,8 +6,9 @@ ghost use Rattle.words.specs.Words.{name_at, string_at};
 ghost use Rattle.words.specs.Room.{room_of};
 ghost use Rattle.host_numbers.specs.Answers.{HostReaderTold, Puts, shown_room, shown_start, shown_stop};
 
+use crate::reading;
 use params::State;
-use words::{NextName, NextText};
+use words::Text;
 
 // The next parameter as a name between two dots: 0, with where the name begins and ends in the file, without its dots.
 pub fn hooflift_enum(
@@ -22,16 +23,7 @@ pub fn hooflift_enum(
     ensures puts { Puts (λ x. x.start) (read_mapped (name_at file.now) (param_of file.now place.old end)).answer start }
     ensures puts_2 { Puts (λ x. x.stop) (read_mapped (name_at file.now) (param_of file.now place.old end)).answer stop }
 {
-    let at = State { place: *place, end };
-    match words::next_enum(file, at) {
-        NextName::Name(a, z, to) => {
-            *place = to.place;
-            *start = a;
-            *stop = z;
-            0
-        }
-        NextName::Refused(f, to) => host_numbers::put_refusal(f, to, place, fault),
-    }
+    reading::span_at(words::next_enum, file, place, end, start, stop, fault)
 }
 
 // The next parameter as a text: 0, with where it begins and ends, in the file where `room` is then 0 and in `out` where it is 1.
@@ -51,22 +43,16 @@ pub fn hooflift_str(
     ensures puts_2 { Puts shown_start (read_mapped (string_at file.now (length out.old)) (param_of file.now place.old end)).answer start }
     ensures puts_3 { Puts shown_stop (read_mapped (string_at file.now (length out.old)) (param_of file.now place.old end)).answer stop }
 {
-    let at = State { place: *place, end };
-    match words::next_str(file, at, out) {
-        NextText::InFile(a, z, to) => {
-            *place = to.place;
-            *room = 0;
-            *start = a;
-            *stop = z;
-            0
-        }
-        NextText::InRoom(n, to) => {
-            *place = to.place;
-            *room = 1;
-            *start = 0;
-            *stop = n;
-            0
-        }
-        NextText::Refused(f, to) => host_numbers::put_refusal(f, to, place, fault),
+    let mut at = State { place: *place, end };
+    let r = words::next_str(file, &mut at, out);
+    if let Ok(text) = r {
+        let (in_room, a, z) = match text {
+            Text::InFile(w) => (0, w.start, w.stop),
+            Text::InRoom(n) => (1, 0, n),
+        };
+        *room = in_room;
+        *start = a;
+        *stop = z;
     }
+    reading::put_place(r, at, place, fault)
 }

@@ -3,15 +3,15 @@ ghost use Rattle.std.specs.Prelude.{◌≡◌};
 ghost use Rattle.std.specs.Float.{binary64};
 ghost use Rattle.std.specs.Float.Ieee.{to_bits};
 ghost use Rattle.reals.specs.Scalar.{reference_of, whole_of, real_of, any_real_of};
-ghost use Rattle.reals.specs.Which.{real_by};
 ghost use Rattle.scalars.specs.Scalars.{option_of, measure_by, measure_of, truth_of};
-ghost use Rattle.scalars.specs.Answer.{next_of, told_next_real};
+ghost use Rattle.scalars.specs.Answer.{next_of};
 ghost use Rattle.host_numbers.specs.Answers.{HostReaderTold, Puts, PutsReal};
 ghost use Rattle.export_args.specs.Values.{given_value, given_set, logical_number};
 
+use crate::reading;
 use params::State;
 use reals::Reals;
-use scalars::{NextOptReal, NextOptRef, NextReal, NextRef, NextTruth, NextWhole};
+use scalars::Truth;
 
 // The next parameter as a reference: 0, with its id in `value`.
 pub fn hooflift_ref(
@@ -24,15 +24,7 @@ pub fn hooflift_ref(
     ensures host_reader_told { HostReaderTold (next_of reference_of file.now place.old end) result place fault }
     ensures puts { Puts (λ x. x) (next_of reference_of file.now place.old end).answer value }
 {
-    let at = State { place: *place, end };
-    match scalars::next_ref(file, at) {
-        NextRef::Value(x, to) => {
-            *place = to.place;
-            *value = x;
-            0
-        }
-        NextRef::Refused(f, to) => host_numbers::put_refusal(f, to, place, fault),
-    }
+    reading::value_at(scalars::next_ref, file, place, end, value, fault)
 }
 
 // The next parameter as a reference or `$`: 0, with 1 in `set` and its id in `value`, or with 0 in `set`.
@@ -48,21 +40,7 @@ pub fn hooflift_opt_ref(
     ensures value_after { value.new ≡ given_value (next_of (option_of reference_of) file.now place.old end).answer value.old }
     ensures puts { Puts given_set (next_of (option_of reference_of) file.now place.old end).answer set }
 {
-    let at = State { place: *place, end };
-    match scalars::next_opt_ref(file, at) {
-        NextOptRef::Value(x, to) => {
-            *place = to.place;
-            *value = x;
-            *set = 1;
-            0
-        }
-        NextOptRef::Unset(to) => {
-            *place = to.place;
-            *set = 0;
-            0
-        }
-        NextOptRef::Refused(f, to) => host_numbers::put_refusal(f, to, place, fault),
-    }
+    reading::given_at(scalars::next_opt_ref, file, place, end, value, set, fault)
 }
 
 // The next parameter as an integer: 0, with it in `value`.
@@ -76,30 +54,7 @@ pub fn hooflift_i64(
     ensures host_reader_told { HostReaderTold (next_of whole_of file.now place.old end) result place fault }
     ensures puts { Puts (λ x. x) (next_of whole_of file.now place.old end).answer value }
 {
-    let at = State { place: *place, end };
-    match scalars::next_i64(file, at) {
-        NextWhole::Value(x, to) => {
-            *place = to.place;
-            *value = x;
-            0
-        }
-        NextWhole::Refused(f, to) => host_numbers::put_refusal(f, to, place, fault),
-    }
-}
-
-// What a reader of a real or a measure answers and leaves.
-fn put_real(r: NextReal, place: &mut usize, value: &mut f64, fault: &mut usize) -> u8
-    ensures host_reader_told { HostReaderTold (told_next_real r) result place fault }
-    ensures puts_real { PutsReal (λ x. x) (told_next_real r).answer value }
-{
-    match r {
-        NextReal::Value(x, to) => {
-            *place = to.place;
-            *value = x;
-            0
-        }
-        NextReal::Refused(f, to) => host_numbers::put_refusal(f, to, place, fault),
-    }
+    reading::value_at(scalars::next_i64, file, place, end, value, fault)
 }
 
 // The next parameter as a real: 0, with its f64 in `value`.
@@ -113,8 +68,7 @@ pub fn hooflift_f64(
     ensures host_reader_told { HostReaderTold (next_of real_of file.now place.old end) result place fault }
     ensures puts_real { PutsReal (λ x. x) (next_of real_of file.now place.old end).answer value }
 {
-    let at = State { place: *place, end };
-    put_real(scalars::next_f64(file, at), place, value, fault)
+    reading::real_at(scalars::next_f64, file, place, end, value, fault)
 }
 
 // The next parameter as any real, whatever its digits and its exponent: as `hooflift_f64`, and never 13.
@@ -128,44 +82,14 @@ pub fn hooflift_any_f64(
     ensures host_reader_told { HostReaderTold (next_of any_real_of file.now place.old end) result place fault }
     ensures puts_real { PutsReal (λ x. x) (next_of any_real_of file.now place.old end).answer value }
 {
-    let at = State { place: *place, end };
-    put_real(
-        scalars::next_real(Reals::Any, file, at),
+    reading::real_at(
+        |file, at| scalars::next_real(Reals::Any, file, at),
+        file,
         place,
+        end,
         value,
         fault,
     )
-}
-
-// The next parameter as a real, of the class or any, or `$`: what both functions below answer and leave.
-fn put_opt_real(
-    which: Reals,
-    file: &[u8],
-    place: &mut usize,
-    end: usize,
-    value: &mut f64,
-    set: &mut u8,
-    fault: &mut usize,
-) -> u8
-    ensures host_reader_told { HostReaderTold (next_of (option_of (real_by which)) file.now place.old end) result place fault }
-    ensures value_after { to_bits binary64 value.new ≡ given_value (next_of (option_of (real_by which)) file.now place.old end).answer (to_bits binary64 value.old) }
-    ensures puts { Puts given_set (next_of (option_of (real_by which)) file.now place.old end).answer set }
-{
-    let at = State { place: *place, end };
-    match scalars::next_opt_real(which, file, at) {
-        NextOptReal::Value(x, to) => {
-            *place = to.place;
-            *value = x;
-            *set = 1;
-            0
-        }
-        NextOptReal::Unset(to) => {
-            *place = to.place;
-            *set = 0;
-            0
-        }
-        NextOptReal::Refused(f, to) => host_numbers::put_refusal(f, to, place, fault),
-    }
 }
 
 // The next parameter as a real or `$`: 0, with 1 in `set` and its f64 in `value`, or with 0 in `set`.
@@ -181,7 +105,7 @@ pub fn hooflift_opt_f64(
     ensures value_after { to_bits binary64 value.new ≡ given_value (next_of (option_of real_of) file.now place.old end).answer (to_bits binary64 value.old) }
     ensures puts { Puts given_set (next_of (option_of real_of) file.now place.old end).answer set }
 {
-    put_opt_real(Reals::Class, file, place, end, value, set, fault)
+    reading::given_real_at(scalars::next_opt_f64, file, place, end, value, set, fault)
 }
 
 // The next parameter as any real or `$`: as `hooflift_opt_f64`, and never 13.
@@ -197,7 +121,15 @@ pub fn hooflift_any_opt_f64(
     ensures value_after { to_bits binary64 value.new ≡ given_value (next_of (option_of any_real_of) file.now place.old end).answer (to_bits binary64 value.old) }
     ensures puts { Puts given_set (next_of (option_of any_real_of) file.now place.old end).answer set }
 {
-    put_opt_real(Reals::Any, file, place, end, value, set, fault)
+    reading::given_real_at(
+        |file, at| scalars::next_opt_real(Reals::Any, file, at),
+        file,
+        place,
+        end,
+        value,
+        set,
+        fault,
+    )
 }
 
 // The next parameter as a measure, a real or `KEYWORD(real)`: 0, with its f64 in `value`.
@@ -211,8 +143,7 @@ pub fn hooflift_measure(
     ensures host_reader_told { HostReaderTold (next_of measure_of file.now place.old end) result place fault }
     ensures puts_real { PutsReal (λ x. x) (next_of measure_of file.now place.old end).answer value }
 {
-    let at = State { place: *place, end };
-    put_real(scalars::next_measure_f64(file, at), place, value, fault)
+    reading::real_at(scalars::next_measure_f64, file, place, end, value, fault)
 }
 
 // The next parameter as a measure with any real: as `hooflift_measure`, and never 13.
@@ -226,10 +157,11 @@ pub fn hooflift_any_measure(
     ensures host_reader_told { HostReaderTold (next_of (measure_by any_real_of) file.now place.old end) result place fault }
     ensures puts_real { PutsReal (λ x. x) (next_of (measure_by any_real_of) file.now place.old end).answer value }
 {
-    let at = State { place: *place, end };
-    put_real(
-        scalars::next_measure(Reals::Any, file, at),
+    reading::real_at(
+        |file, at| scalars::next_measure(Reals::Any, file, at),
+        file,
         place,
+        end,
         value,
         fault,
     )
@@ -246,23 +178,14 @@ pub fn hooflift_bool(
     ensures host_reader_told { HostReaderTold (next_of truth_of file.now place.old end) result place fault }
     ensures puts { Puts logical_number (next_of truth_of file.now place.old end).answer value }
 {
-    let at = State { place: *place, end };
-    match scalars::next_bool(file, at) {
-        NextTruth::False(to) => {
-            *place = to.place;
-            *value = 0;
-            0
-        }
-        NextTruth::True(to) => {
-            *place = to.place;
-            *value = 1;
-            0
-        }
-        NextTruth::Unknown(to) => {
-            *place = to.place;
-            *value = 2;
-            0
-        }
-        NextTruth::Refused(f, to) => host_numbers::put_refusal(f, to, place, fault),
+    let mut at = State { place: *place, end };
+    let r = scalars::next_bool(file, &mut at);
+    if let Ok(t) = r {
+        *value = match t {
+            Truth::False => 0,
+            Truth::True => 1,
+            Truth::Unknown => 2,
+        };
     }
+    reading::put_place(r, at, place, fault)
 }

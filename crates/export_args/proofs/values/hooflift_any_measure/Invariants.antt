@@ -1,0 +1,7 @@
+use Rattle.reals.specs.Scalar.{any_real_of}
+use Rattle.scalars.specs.Scalars.{measure_by}
+use Rattle.scalars.specs.Answer.{next_of}
+use Rattle.export_args.proofs.values.hooflift_any_measure.Given as goal
+
+abbrev pub ghost-real_at : goal.ghost-real_at
+ghost-real_at a = next_of (measure_by any_real_of) a.file.now
