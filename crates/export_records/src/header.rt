@@ -1,13 +1,12 @@
 // Header records and their texts, for hosts in other languages: by keyword, and the file's name and the system that wrote it.
 ghost use Rattle.std.specs.Prelude.{◌≡◌, length};
-ghost use Rattle.error.specs.Refusal.{good};
-ghost use Rattle.file_name_texts.specs.Title.{told_title, title_by, room_by, file_name};
+ghost use Rattle.error.specs.Refusal.{good, told_result};
+ghost use Rattle.file_name_texts.specs.Title.{title_by, room_by, file_name};
 ghost use Rattle.host_numbers.specs.Answers.{HostTold, Puts, PutsFound, found_code, shown_room, shown_start, shown_stop};
 ghost use Rattle.export_records.specs.Records.{host_header_row, host_header_args};
 
-use file_name_texts::Title;
-use headers::HeaderFound;
-use lookup::RowOrNone;
+use error::Fault;
+use words::Text;
 
 // The first header record with this keyword, letters in either case: 0, with its row's number; 255 where there is none.
 pub fn hooflift_header_row(
@@ -20,13 +19,8 @@ pub fn hooflift_header_row(
     ensures value { result ≡ found_code (good (host_header_row file.now headers.now tables.now name.now)) }
     ensures puts_found { PutsFound (λ i. i) (good (host_header_row file.now headers.now tables.now name.now)) row }
 {
-    match headers::header_row(file, headers, host_numbers::tables_of(tables), name) {
-        RowOrNone::At(i) => {
-            *row = i;
-            0
-        }
-        RowOrNone::Nothing => 255,
-    }
+    let found = headers::header_row(file, headers, host_numbers::tables_of(tables), name);
+    host_numbers::put_found(found, row)
 }
 
 // Where the arguments of the first header record with this keyword stand: 0, 9, or 255 where there is none.
@@ -43,37 +37,43 @@ pub fn hooflift_header_args(
     ensures puts_found_2 { PutsFound (λ x. x.end) (host_header_args file.now headers.now tables.now name.now) stop }
 {
     match headers::header_args(file, headers, host_numbers::tables_of(tables), name) {
-        HeaderFound::Span(r) => {
+        Ok(Some(r)) => {
             *start = r.start;
             *stop = r.end;
             0
         }
-        HeaderFound::Nothing => 255,
-        HeaderFound::Refused(f) => error::number(f),
+        Ok(None) => 255,
+        Err(f) => f.number(),
     }
 }
 
 // Tells where a text stands: 0, or the refusal's number, with its place.
-fn put_title(t: Title, room: &mut u8, start: &mut usize, stop: &mut usize, fault: &mut usize) -> u8
-    ensures host_told { HostTold (told_title t) result fault }
-    ensures puts { Puts shown_room (told_title t) room }
-    ensures puts_2 { Puts shown_start (told_title t) start }
-    ensures puts_3 { Puts shown_stop (told_title t) stop }
+fn put_title(
+    t: Result<Text, Fault>,
+    room: &mut u8,
+    start: &mut usize,
+    stop: &mut usize,
+    fault: &mut usize,
+) -> u8
+    ensures host_told { HostTold (told_result t) result fault }
+    ensures puts { Puts shown_room (told_result t) room }
+    ensures puts_2 { Puts shown_start (told_result t) start }
+    ensures puts_3 { Puts shown_stop (told_result t) stop }
 {
     match t {
-        Title::InFile(a, z) => {
+        Ok(Text::InFile(w)) => {
             *room = 0;
-            *start = a;
-            *stop = z;
+            *start = w.start;
+            *stop = w.stop;
             0
         }
-        Title::InRoom(n) => {
+        Ok(Text::InRoom(n)) => {
             *room = 1;
             *start = 0;
             *stop = n;
             0
         }
-        Title::Refused(f) => host_numbers::put_fault(f, fault),
+        Err(f) => host_numbers::put_fault(f, fault),
     }
 }
 

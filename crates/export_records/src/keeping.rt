@@ -1,22 +1,23 @@
 // Rows kept beside a file.
 ghost use Rattle.std.specs.Prelude.{◌≡◌, length};
-ghost use Rattle.rows_kept.specs.KeptRows.{keep_table, told_kept_count, kept_after, read_of, read_after};
+ghost use Rattle.error.specs.Refusal.{told_result};
+ghost use Rattle.rows_kept.specs.KeptRows.{keep_table, kept_after, read_of, read_after};
 ghost use Rattle.host_numbers.specs.Answers.{Puts, read_code};
 ghost use Rattle.table.specs.Table.{rows_fit, row_numbers};
 
-use rows_kept::KeptCount;
+use error::Fault;
 
 // Tells how many rows there are: 0, or the refusal's number.
-fn put_kept(r: KeptCount, count: &mut usize) -> u8
-    ensures value { result ≡ read_code (told_kept_count r) }
-    ensures puts { Puts (λ n. n) (told_kept_count r) count }
+fn put_kept(r: Result<usize, Fault>, count: &mut usize) -> u8
+    ensures value { result ≡ read_code (told_result r) }
+    ensures puts { Puts (λ n. n) (told_result r) count }
 {
     match r {
-        KeptCount::Rows(n) => {
+        Ok(n) => {
             *count = n;
             0
         }
-        KeptCount::Refused(f) => error::number(f),
+        Err(f) => f.number(),
     }
 }
 

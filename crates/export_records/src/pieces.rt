@@ -5,19 +5,21 @@ ghost use Rattle.parts.specs.Part.{next_part_of, part_of};
 ghost use Rattle.table.specs.Table.{header_width, header_row_numbers};
 ghost use Rattle.host_numbers.specs.Answers.{read_fault};
 ghost use Rattle.host_numbers.specs.Numbers.{out_code, out_after, kind_by};
+ghost use Rattle.export_records.specs.Records.{told_part};
 
-use parts::Next;
+use error::Fault;
+use statement::HeaderSpan;
 
 // Tells a part: 0, with its four numbers; 255 where there is none; or the refusal's number, with its place.
-fn put_next(r: Next, part: &mut [u64], fault: &mut usize) -> u8
-    ensures value { result ≡ out_code header_width (length part.old) (told_next r) }
-    ensures part_after { part.new ≡ out_after header_width header_row_numbers (told_next r) part.old }
+fn put_next(r: Result<Option<HeaderSpan>, Fault>, part: &mut [u64], fault: &mut usize) -> u8
+    ensures value { result ≡ out_code header_width (length part.old) (told_part (told_next r)) }
+    ensures part_after { part.new ≡ out_after header_width header_row_numbers (told_part (told_next r)) part.old }
     ensures fault_after { fault.new ≡ read_fault (told_next r) fault.old }
 {
     match r {
-        Next::Is(p) => host_numbers::put_part(part, p),
-        Next::Over => 255,
-        Next::Refused(f) => host_numbers::put_fault(f, fault),
+        Ok(Some(p)) => host_numbers::put_part(part, p),
+        Ok(None) => 255,
+        Err(f) => host_numbers::put_fault(f, fault),
     }
 }
 
@@ -30,8 +32,8 @@ pub fn hooflift_next_part(
     part: &mut [u64],
     fault: &mut usize,
 ) -> u8
-    ensures value { result ≡ out_code header_width (length part.old) (next_part_of file.now at end) }
-    ensures part_after { part.new ≡ out_after header_width header_row_numbers (next_part_of file.now at end) part.old }
+    ensures value { result ≡ out_code header_width (length part.old) (told_part (next_part_of file.now at end)) }
+    ensures part_after { part.new ≡ out_after header_width header_row_numbers (told_part (next_part_of file.now at end)) part.old }
     ensures fault_after { fault.new ≡ read_fault (next_part_of file.now at end) fault.old }
 {
     put_next(parts::next_part(file, at, end), part, fault)
@@ -47,8 +49,8 @@ pub fn hooflift_complex_part(
     part: &mut [u64],
     fault: &mut usize,
 ) -> u8
-    ensures value { result ≡ out_code header_width (length part.old) (part_of file.now start end complex (kind_by kind)) }
-    ensures part_after { part.new ≡ out_after header_width header_row_numbers (part_of file.now start end complex (kind_by kind)) part.old }
+    ensures value { result ≡ out_code header_width (length part.old) (told_part (part_of file.now start end complex (kind_by kind))) }
+    ensures part_after { part.new ≡ out_after header_width header_row_numbers (told_part (part_of file.now start end complex (kind_by kind))) part.old }
     ensures fault_after { fault.new ≡ read_fault (part_of file.now start end complex (kind_by kind)) fault.old }
 {
     put_next(
