@@ -1,9 +1,8 @@
 -- What it is for two files to be alike, where they are looked at: answers, parts of the file, records and lookups. Places are free:
 -- bytes, kinds, values and refusal numbers are not. `Named` are the ids that matter: every id that the bytes name is one of them, and
 -- of no other is anything asked. Assumes nothing.
-use Rattle.std.specs.Prelude.{ℕ, ◌≤◌, ◌≡◌, refl, Bool, true, false, List, [], ◌∷◌, length}
+use Rattle.std.specs.Prelude.{ℕ, ◌≤◌, ◌≡◌, refl, Bool, true, false, List, [], ◌∷◌, length, Option, None, Some}
 use Rattle.std.proofs.Common.{ap}
-use Rattle.std.proofs.Math.Option.{Option, none, some}
 use Rattle.common.specs.Pick.{pick}
 use Rattle.error.specs.Refusal.{Refusal, Told, good, bad}
 use Rattle.kinds.specs.declared.Kind.{Kind}
@@ -26,10 +25,10 @@ BothTold R (bad q) (bad q') = SameRefusal q q'
 
 -- two options: none, or two that R holds of
 abbrev pub BothOption : {A B : Type 0} → (A → B → Type 0) → Option A → Option B → Type 0
-BothOption R none none = Unit {0}
-BothOption R none (some b) = ⊥
-BothOption R (some a) none = ⊥
-BothOption R (some a) (some b) = R a b
+BothOption R None None = Unit {0}
+BothOption R None (Some b) = ⊥
+BothOption R (Some a) None = ⊥
+BothOption R (Some a) (Some b) = R a b
 
 -- two lists: as many, and R holds of each two in order
 abbrev pub BothList : {A B : Type 0} → (A → B → Type 0) → List A → List B → Type 0
@@ -106,17 +105,17 @@ module _ {A B : Type 0} (R : A → B → Type 0) where
 
     -- what is made of two options that are alike is alike
     pub both_option : (o : C) (o' : D) (f : A → C) (g : B → D) (x : Option A) (y : Option B) → BothOption R x y → Q o o' → ((a : A) (b : B) → R a b → Q (f a) (g b)) → Q (option_by o f x) (option_by o' g y)
-    both_option o o' f g none none h l k = l
-    both_option o o' f g none (some b) h l k = absurd h
-    both_option o o' f g (some a) none h l k = absurd h
-    both_option o o' f g (some a) (some b) h l k = k a b h
+    both_option o o' f g None None h l k = l
+    both_option o o' f g None (Some b) h l k = absurd h
+    both_option o o' f g (Some a) None h l k = absurd h
+    both_option o o' f g (Some a) (Some b) h l k = k a b h
 
     -- answers that may be none and are alike are alike when they are read on
     pub both_on_option : (o : Told C) (o' : Told D) (f : A → Told C) (g : B → Told D) (x : Told (Option A)) (y : Told (Option B)) → BothTold (BothOption R) x y → BothTold Q o o' → ((a : A) (b : B) → R a b → BothTold Q (f a) (g b)) → BothTold Q (onward (option_by o f) x) (onward (option_by o' g) y)
-    both_on_option o o' f g (good none) (good none) h l k = l
-    both_on_option o o' f g (good none) (good (some b)) h l k = absurd h
-    both_on_option o o' f g (good (some a)) (good none) h l k = absurd h
-    both_on_option o o' f g (good (some a)) (good (some b)) h l k = k a b h
+    both_on_option o o' f g (good None) (good None) h l k = l
+    both_on_option o o' f g (good None) (good (Some b)) h l k = absurd h
+    both_on_option o o' f g (good (Some a)) (good None) h l k = absurd h
+    both_on_option o o' f g (good (Some a)) (good (Some b)) h l k = k a b h
     both_on_option o o' f g (good a) (bad q) h l k = absurd h
     both_on_option o o' f g (bad q) (good b) h l k = absurd h
     both_on_option o o' f g (bad q) (bad q') h l k = h
@@ -145,7 +144,7 @@ module _ (Named : ℕ → Type 0) (s s' : List ℕ) where
   first_alike k (p ∷ ps) [] h = absurd h
   first_alike k (p ∷ ps) (p' ∷ ps') ((e, r), h) = rw (← e) (go (same_kind p.kind k) (first_alike k ps ps' h))
     where
-      go : (b : Bool) → BothOption (AlikeSpan Named s s') (first_unit_part k ps) (first_unit_part k ps') → BothOption (AlikeSpan Named s s') (pick b (some p.run) (first_unit_part k ps)) (pick b (some p'.run) (first_unit_part k ps'))
+      go : (b : Bool) → BothOption (AlikeSpan Named s s') (first_unit_part k ps) (first_unit_part k ps') → BothOption (AlikeSpan Named s s') (pick b (Some p.run) (first_unit_part k ps)) (pick b (Some p'.run) (first_unit_part k ps'))
       go true l = r
       go false l = l
 
@@ -156,4 +155,4 @@ module _ (Named : ℕ → Type 0) (s s' : List ℕ) where
 
     -- the arguments of two alike records of a kind, or of their first parts of that kind, are alike
     pub self_alike : (k : Kind) → BothTold (BothOption (AlikeSpan Named s s')) (self_or k t) (self_or k t')
-    self_alike k = rw (← h.kind) (both_pick (BothOption (AlikeSpan Named s s')) (same_kind t.kind k) (good (some t.run)) (good_by (first_unit_part k) t.parts) (good (some t'.run)) (good_by (first_unit_part k) t'.parts) h.run (part_alike k))
+    self_alike k = rw (← h.kind) (both_pick (BothOption (AlikeSpan Named s s')) (same_kind t.kind k) (good (Some t.run)) (good_by (first_unit_part k) t.parts) (good (Some t'.run)) (good_by (first_unit_part k) t'.parts) h.run (part_alike k))

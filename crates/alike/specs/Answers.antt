@@ -1,10 +1,9 @@
 -- What a record declares as a unit context depends only on its bytes and on those of the records that it names: in two files with alike
 -- records and alike lookups it is the same, bit for bit, or the same refusal. Nothing is asked but of ids that bytes name. Assumes nothing.
-use Rattle.std.specs.Prelude.{ℕ, ◌≡◌, true}
+use Rattle.std.specs.Prelude.{ℕ, ◌≡◌, true, Option, None, Some}
 use Rattle.std.proofs.Math.Path.{refl, subst}
 use Rattle.std.proofs.Common.{ap}
 use mathlib.Core.List.{List, [], ◌∷◌}
-use Rattle.std.proofs.Math.Option.{Option, none, some}
 use Rattle.common.specs.Compare.{clash}
 use Rattle.error.specs.Refusal.{Told, good, bad}
 use Rattle.reals.specs.Scalar.{reference_of, whole_of}
@@ -20,7 +19,9 @@ use Rattle.factors.specs.Each.{Each}
 use Rattle.factors.specs.EachLaws.{each_nil, each_head, each_less}
 use Rattle.factors.specs.Unit.{option_by}
 use Rattle.factors.specs.Factor.{length_of, angle_of}
-use Rattle.units.specs.Answer.{Units, defaults, Role, length_role, angle_role, solid_role, role_by, with_length, with_angle, with_tolerance, is_read, reads_integer, is_context, refs_in, uncertain_by, uncertainty_of, uncertainty_by}
+use Rattle.units.specs.declared.role.Role.{Role}
+use Rattle.units.specs.declared.role.Role.TheVariants.{Length as length_role, Angle as angle_role, Solid as solid_role}
+use Rattle.units.specs.Answer.{Units, defaults, role_by, with_length, with_angle, with_tolerance, is_read, reads_integer, is_context, refs_in, uncertain_by, uncertainty_of, uncertainty_by}
 use Rattle.units.specs.Units.{role_of, first_role, by_role, unit_of, unit_by, units_by, tolerance_by, listed_units, listed_tolerance, context_of}
 use Rattle.alike.specs.Readers.{next_shift, list_shift}
 use Rattle.alike.specs.Alike.{BothTold, BothOption, BothList, SameTold, AlikeSpan, AlikePart, AlikeRecord, AlikeFind, both_pick, both_on, both_by, same_on, same_on_read, same_by, self_alike}
@@ -36,7 +37,7 @@ reads_alike (bad q) (bad q') h = refl
 
 -- the uncertainty of two answers that are the same is the same, or there is none in either
 uncertain_alike : (x y : Told ℕ) → SameTold x y → SameTold (uncertain_by x) (uncertain_by y)
-uncertain_alike (good v) (good w) h = ap some h
+uncertain_alike (good v) (good w) h = ap Some h
 uncertain_alike (good v) (bad q) h = absurd h
 uncertain_alike (bad q) (good w) h = absurd h
 uncertain_alike (bad q) (bad q') h = unread_alike q q' h
@@ -45,33 +46,33 @@ uncertain_alike (bad q) (bad q') h = unread_alike q q' h
 module _ (Named : ℕ → Type 0) (s s' : List ℕ) where
   -- the first parameter of alike arguments reads as an integer in both, or in neither
   integer_alike : (x y : Option Span) → BothOption (AlikeSpan Named s s') x y → reads_integer s x ≡ reads_integer s' y
-  integer_alike none none h = refl
-  integer_alike none (some r) h = absurd h
-  integer_alike (some r) none h = absurd h
-  integer_alike (some r) (some r') h = reads_alike (next_of whole_of s r.start r.stop).answer (next_of whole_of s' r'.start r'.stop).answer (read_first h (next_of whole_of) (λ s a z m n. next_shift s a z m n whole_of))
+  integer_alike None None h = refl
+  integer_alike None (Some r) h = absurd h
+  integer_alike (Some r) None h = absurd h
+  integer_alike (Some r) (Some r') h = reads_alike (next_of whole_of s r.start r.stop).answer (next_of whole_of s' r'.start r'.stop).answer (read_first h (next_of whole_of) (λ s a z m n. next_shift s a z m n whole_of))
 
   -- the references that alike arguments list are the same
   pub refs_alike : (x y : Option Span) → BothOption (AlikeSpan Named s s') x y → SameTold (refs_in s x) (refs_in s' y)
   unfolding refs_in
-  refs_alike none none h = refl
-  refs_alike none (some r) h = absurd h
-  refs_alike (some r) none h = absurd h
-  refs_alike (some r) (some r') h = read_first h (next_by (list_of reference_of) (λ vs. true)) (λ s a z m n. list_shift s a z m n (list_of reference_of) (λ vs. true))
+  refs_alike None None h = refl
+  refs_alike None (Some r) h = absurd h
+  refs_alike (Some r) None h = absurd h
+  refs_alike (Some r) (Some r') h = read_first h (next_by (list_of reference_of) (λ vs. true)) (λ s a z m n. list_shift s a z m n (list_of reference_of) (λ vs. true))
 
   -- the references that alike arguments list are ids that matter
   refs_named : (x y : Option Span) → BothOption (AlikeSpan Named s s') x y → (vs : List ℕ) → refs_in s x ≡ good vs → Each Named vs
   unfolding refs_in
-  refs_named none none h vs e = let d : [] ≡ vs = cc in subst (Each Named) d (each_nil Named)
-  refs_named none (some r) h vs e = absurd h
-  refs_named (some r) none h vs e = absurd h
-  refs_named (some r) (some r') h vs e = refs_first h (λ vs. true) vs e
+  refs_named None None h vs e = let d : [] ≡ vs = cc in subst (Each Named) d (each_nil Named)
+  refs_named None (Some r) h vs e = absurd h
+  refs_named (Some r) None h vs e = absurd h
+  refs_named (Some r) (Some r') h vs e = refs_first h (λ vs. true) vs e
 
   -- of alike parts, the first that gives a role gives the same
   first_role_alike : (ps ps' : List UnitPart) → BothList (AlikePart Named s s') ps ps' → first_role ps ≡ first_role ps'
   first_role_alike [] [] h = refl
   first_role_alike [] (p ∷ ps) h = absurd h
   first_role_alike (p ∷ ps) [] h = absurd h
-  first_role_alike (p ∷ ps) (p' ∷ ps') ((e, r), h) = rw (← e) (ap (λ (x : Option Role). option_by x some (role_by p.kind)) (first_role_alike ps ps' h))
+  first_role_alike (p ∷ ps) (p' ∷ ps') ((e, r), h) = rw (← e) (ap (λ (x : Option Role). option_by x Some (role_by p.kind)) (first_role_alike ps ps' h))
 
 module _ {Named : ℕ → Type 0} {s s' : List ℕ} where
   -- ---- records
@@ -103,7 +104,7 @@ module _ {Named : ℕ → Type 0} {s s' : List ℕ} where
     -- two alike records give the same uncertainty
     uncertainty_of_alike : (find find' : ℕ → Told (Option SeenRecord)) → SameTold (uncertainty_of s t) (uncertainty_of s' t')
     uncertainty_of_alike find find' = rw (← h.kind) (both_pick (λ a b. a ≡ b) (same_kind t.kind UncertaintyMeasureWithUnit)
-        (uncertain_by (next_of measure_of s t.run.start t.run.stop).answer) (good none) (uncertain_by (next_of measure_of s' t'.run.start t'.run.stop).answer) (good none)
+        (uncertain_by (next_of measure_of s t.run.start t.run.stop).answer) (good None) (uncertain_by (next_of measure_of s' t'.run.start t'.run.stop).answer) (good None)
         (uncertain_alike (next_of measure_of s t.run.start t.run.stop).answer (next_of measure_of s' t'.run.start t'.run.stop).answer (number_alike h.run)) refl)
 
   -- ---- records and lookups
@@ -113,10 +114,10 @@ module _ {Named : ℕ → Type 0} {s s' : List ℕ} where
     unit_of_alike u t t' h = same_on (by_role s find u t) (by_role s' find' u t') (role_of t) (role_of t') (role_alike h) go
       where
         go : (x : Option Role) → SameTold (by_role s find u t x) (by_role s' find' u t' x)
-        go none = refl
-        go (some length_role) = same_by (with_length u) (length_of s find 16 t) (length_of s' find' 16 t') (length_alike finds 16 t t' h)
-        go (some angle_role) = same_by (with_angle u) (angle_of s find t) (angle_of s' find' t') (angle_alike finds t t' h)
-        go (some solid_role) = refl
+        go None = refl
+        go (Some length_role) = same_by (with_length u) (length_of s find 16 t) (length_of s' find' 16 t') (length_alike finds 16 t t' h)
+        go (Some angle_role) = same_by (with_angle u) (angle_of s find t) (angle_of s' find' t') (angle_alike finds t t' h)
+        go (Some solid_role) = refl
 
     -- a unit, by an id that matters, adds the same to the units of a list
     pub unit_alike : (u : Units) (i : ℕ) → Named i → SameTold (unit_by s find u i) (unit_by s' find' u i)
@@ -133,7 +134,7 @@ module _ {Named : ℕ → Type 0} {s s' : List ℕ} where
     -- the uncertainty by an id that matters is the same
     pub uncertainty_alike : (i : ℕ) → Named i → SameTold (uncertainty_by s find i) (uncertainty_by s' find' i)
     unfolding uncertainty_by
-    uncertainty_alike i n = found_alike finds (good none) (uncertainty_of s) (uncertainty_of s') i n (λ t t' h. uncertainty_of_alike h find find')
+    uncertainty_alike i n = found_alike finds (good None) (uncertainty_of s) (uncertainty_of s') i n (λ t t' h. uncertainty_of_alike h find find')
 
     -- the tolerance of a list of ids that matter is the same
     pub tolerance_alike : (is : List ℕ) → Each Named is → SameTold (tolerance_by s find is) (tolerance_by s' find' is)
@@ -143,8 +144,8 @@ module _ {Named : ℕ → Type 0} {s s' : List ℕ} where
         same_on (option_by (tolerance_by s find is) good) (option_by (tolerance_by s' find' is) good) (uncertainty_by s find i) (uncertainty_by s' find' i) (uncertainty_alike i (each_head Named i is n)) (go (tolerance_alike is (each_less Named i is n)))
       where
         go : SameTold (tolerance_by s find is) (tolerance_by s' find' is) → (x : Option ℕ) → SameTold (option_by (tolerance_by s find is) good x) (option_by (tolerance_by s' find' is) good x)
-        go k none = k
-        go k (some v) = refl
+        go k None = k
+        go k (Some v) = refl
 
     module _ {t t' : SeenRecord} (h : AlikeRecord Named s s' t t') where
       -- two alike records list the same units

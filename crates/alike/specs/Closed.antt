@@ -1,7 +1,7 @@
 -- What the units see of a closed record depends on its text alone: "each id then yields a record with the same keyword and argument
 -- bytes" (demand 3), and so do its parts, of which none has a fault. q precedes the record's text b in the file, y follows it.
 -- Assumes nothing.
-use Rattle.std.specs.Prelude.{ℕ, ◌+◌, ◌-◌, ◌≤◌, ◌≡◌, refl, true, List, [], ◌∷◌, ◌++◌, map, length, drop}
+use Rattle.std.specs.Prelude.{ℕ, ◌+◌, ◌-◌, ◌≤◌, ◌≡◌, refl, true, List, [], ◌∷◌, ◌++◌, map, length, drop, Ok}
 use Rattle.std.proofs.Common.{sym, ◌∙◌, ap, subst, append_assoc, append-nil, arith, le-leb, length-append, length-drop}
 use Rattle.std.proofs.Math.Option.{Option, some}
 use Rattle.std.proofs.Math.Seq.{drop-append-add, take-append_seam, drop-append_seam}
@@ -188,7 +188,7 @@ closed_seen_good {b} c q y =
     rw (fine_in (length (q ++ (b ++ y))) (span (row_from (length q) c).arg_start (row_from (length q) c).arg_end) (closed_run_in c q y))
 
 -- a simple closed record's kind is that of the keyword in its text
-simple_kind : {b : List ℕ} {i a z o : ℕ} (e : data_head b ≡ Simple i a z o) (c : ClosedAt b o) (q y : List ℕ)
+simple_kind : {b : List ℕ} {i a z o : ℕ} (e : data_head b ≡ Ok (Simple i a z o)) (c : ClosedAt b o) (q y : List ℕ)
     → kind_in (q ++ (b ++ y)) (row_from (length q) (ClosedData.simple e c)) ≡ kind_of_keyword (bytes_between b a z)
 simple_kind {b} {i} {a} {z} {o} e c q y =
     let (k, l, m) = simple_ordered (rw e at (headform_is b)) in

@@ -1,10 +1,9 @@
 -- The unit answer of a file depends on the lookup and on the unit contexts in order alone; and where those of two files are alike, it is
 -- the same, bit for bit, or the same refusal number (demand 3). Assumes nothing.
-use Rattle.std.specs.Prelude.{ℕ, ◌≡◌, Bool, true, false}
+use Rattle.std.specs.Prelude.{ℕ, ◌≡◌, Bool, true, false, Option, Some}
 use Rattle.std.proofs.Math.Path.{refl}
 use Rattle.std.proofs.Common.{sym, ◌∙◌, ap}
 use mathlib.Core.List.{List, [], ◌∷◌}
-use Rattle.std.proofs.Math.Option.{Option, some}
 use Rattle.common.specs.Pick.{pick}
 use Rattle.common.specs.Compare.{clash}
 use Rattle.error.specs.Refusal.{Told, good, bad}
@@ -42,8 +41,8 @@ pub context_told : (s : List ℕ) (t : SeenRecord) (ps : List UnitPart) → t.pa
 unfolding is_context
 context_told s t ps e = rw e (go (same_kind t.kind GeometricRepresentationContext))
   where
-    go : (c : Bool) → (b : Bool) × (good_by (reads_integer s) (pick c (good (some t.run)) (good (first_unit_part GeometricRepresentationContext ps))) ≡ good b)
-    go true = (reads_integer s (some t.run), refl)
+    go : (c : Bool) → (b : Bool) × (good_by (reads_integer s) (pick c (good (Some t.run)) (good (first_unit_part GeometricRepresentationContext ps))) ≡ good b)
+    go true = (reads_integer s (Some t.run), refl)
     go false = (reads_integer s (first_unit_part GeometricRepresentationContext ps), refl)
 
 -- where all records and their parts can be had, it is told of each whether it is a context

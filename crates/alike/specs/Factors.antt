@@ -2,10 +2,9 @@
 -- the same, or the same refusal. Nothing is asked but of ids that these bytes name. Assumes nothing.
 use Prim.Native.Nat.{ℕ, zero, suc}
 use Prim.Native.String.{String}
-use Rattle.std.specs.Prelude.{◌≡◌, Bool, true, false, List, [], eqb}
+use Rattle.std.specs.Prelude.{◌≡◌, Bool, true, false, List, [], eqb, Option, None, Some}
 use Rattle.std.proofs.Math.Path.{refl}
 use Rattle.std.proofs.Common.{◌∙◌, ap, subst}
-use Rattle.std.proofs.Math.Option.{Option, none, some}
 use Rattle.common.specs.Pick.{pick}
 use Rattle.common.specs.Compare.{clash}
 use Rattle.error.specs.Refusal.{Refusal, refusal, Told, good, bad}
@@ -74,9 +73,9 @@ use Rattle.alike.specs.SameBytesRead.{read_first, read_second, ref_second, name_
 -- ---- answers put together
 -- two refused numbers with the same refusal refuse alike, or give no factor alike
 pub unread_alike : (q q' : Refusal) → SameRefusal q q' → SameTold (unread_of (bad q)) (unread_of (bad q'))
-unread_alike q q' h = subst (λ (n : ℕ). SameTold (unread_of (bad q)) (pick (eqb n 13) (bad q') (good none))) h.0 (go (eqb q.number 13))
+unread_alike q q' h = subst (λ (n : ℕ). SameTold (unread_of (bad q)) (pick (eqb n 13) (bad q') (good None))) h.0 (go (eqb q.number 13))
   where
-    go : (b : Bool) → SameTold {A = Option ℕ} (pick b (bad q) (good none)) (pick b (bad q') (good none))
+    go : (b : Bool) → SameTold {A = Option ℕ} (pick b (bad q) (good None)) (pick b (bad q') (good None))
     go true = h
     go false = refl
 
@@ -107,8 +106,8 @@ module _ {Named : ℕ → Type 0} {s s' : List ℕ} where
     -- the factor of a named unit is the same for alike arguments
     named_alike : (name : String) (f : List ℕ → ℕ) → factor_if_named name s r (f (prefix_in s r)) ≡ factor_if_named name s' r' (f (prefix_in s' r'))
     named_alike name f =
-        ap (λ (t : List ℕ). pick (is_word t (bytes name)) (some (f (prefix_in s r))) none) (name_second h (bytes name))
-        ∙ ap (λ (t : List ℕ). pick (is_word (unit_in name s' r') (bytes name)) (some (f t)) none) (name_first h [])
+        ap (λ (t : List ℕ). pick (is_word t (bytes name)) (Some (f (prefix_in s r))) None) (name_second h (bytes name))
+        ∙ ap (λ (t : List ℕ). pick (is_word (unit_in name s' r') (bytes name)) (Some (f t)) None) (name_first h [])
 
     -- an SI unit's length factor is the same for alike arguments
     pub si_length_alike : si_length s r ≡ si_length s' r'
@@ -146,7 +145,7 @@ module _ {Named : ℕ → Type 0} {s s' : List ℕ} where
     -- the arguments of two alike records as measures are alike
     pub run_alike : BothTold (BothOption (AlikeSpan Named s s')) (measure_run t) (measure_run t')
     run_alike = rw (← h.kind) (both_pick (BothOption (AlikeSpan Named s s')) (same_kind t.kind Complex)
-        (good_by (first_unit_part LengthMeasureWithUnit) t.parts) (good (some t.run)) (good_by (first_unit_part LengthMeasureWithUnit) t'.parts) (good (some t'.run))
+        (good_by (first_unit_part LengthMeasureWithUnit) t.parts) (good (Some t.run)) (good_by (first_unit_part LengthMeasureWithUnit) t'.parts) (good (Some t'.run))
         (part_alike Named s s' t t' h LengthMeasureWithUnit) h.run)
 
     -- what two alike records give, by an SI part before a conversion, is alike
@@ -164,7 +163,7 @@ module _ {Named : ℕ → Type 0} {s s' : List ℕ} where
     -- two alike records give the same as a unit of a chain
     pub link_alike : (left : ℕ) → BothTold (SameChain Named) (link_of s left t) (link_of s' left t')
     unfolding link_of
-    link_alike left = by_alike (SameChain Named) (λ r. good (known (si_length s r))) (λ r. good (known (si_length s' r))) (conversion_of s left t.run.start) (conversion_of s' left t'.run.start) (known none) refl
+    link_alike left = by_alike (SameChain Named) (λ r. good (known (si_length s r))) (λ r. good (known (si_length s' r))) (conversion_of s left t.run.start) (conversion_of s' left t'.run.start) (known None) refl
         (λ r r' k. si_length_alike k)
         (λ r r' k. both_pick (SameChain Named) (eqb left 0) (bad (refusal 15 0 t.run.start)) (good_by leads (measure_ref s r)) (bad (refusal 15 0 t'.run.start)) (good_by leads (measure_ref s' r'))
         (refl, refl) (go (measure_ref s r) (measure_ref s' r') (ref_alike k) (ref_named k)))
@@ -190,15 +189,15 @@ module _ {Named : ℕ → Type 0} {s s' : List ℕ} where
           (λ v. base_of s find k v (next_of measure_of s r.start r.stop).place r.stop) (λ v. base_of s' find' l v (next_of measure_of s' r'.start r'.stop).place r'.stop) (number_alike h)
           (λ v. or_none_alike
           (next_of reference_of s (next_of measure_of s r.start r.stop).place r.stop).answer (next_of reference_of s' (next_of measure_of s' r'.start r'.stop).place r'.stop).answer
-          (λ b. onward (option_by (good none) (λ t. scaled_by v (k t))) (find b)) (λ b. onward (option_by (good none) (λ t. scaled_by v (l t))) (find' b))
+          (λ b. onward (option_by (good None) (λ t. scaled_by v (k t))) (find b)) (λ b. onward (option_by (good None) (λ t. scaled_by v (l t))) (find' b))
           (read_second h (next_of reference_of) (λ s a z m n. next_shift s a z m n reference_of))
-          (λ b d. found_alike (good none) (λ t. scaled_by v (k t)) (λ t. scaled_by v (l t)) b (ref_second h b d) (λ t t' e. same_by (option_by none (λ f. some (product v f))) (k t) (l t') (units t t' e))))
+          (λ b d. found_alike (good None) (λ t. scaled_by v (k t)) (λ t. scaled_by v (l t)) b (ref_second h b d) (λ t t' e. same_by (option_by None (λ f. Some (product v f))) (k t) (l t') (units t t' e))))
 
       -- the factor of a measure, by an id that matters, is the same
       pub measure_alike : (i : ℕ) → Named i → SameTold (measure_in s find k i) (measure_in s' find' l i)
       unfolding measure_in
-      measure_alike i n = found_alike (good none) (λ t. onward (option_by (good none) (measure_at s find k)) (measure_run t)) (λ t. onward (option_by (good none) (measure_at s' find' l)) (measure_run t)) i n
-          (λ t t' h. both_on_option (AlikeSpan Named s s') (λ a b. a ≡ b) (good none) (good none) (measure_at s find k) (measure_at s' find' l) (measure_run t) (measure_run t') (run_alike h) refl measure_at_alike)
+      measure_alike i n = found_alike (good None) (λ t. onward (option_by (good None) (measure_at s find k)) (measure_run t)) (λ t. onward (option_by (good None) (measure_at s' find' l)) (measure_run t)) i n
+          (λ t t' h. both_on_option (AlikeSpan Named s s') (λ a b. a ≡ b) (good None) (good None) (measure_at s find k) (measure_at s' find' l) (measure_run t) (measure_run t') (run_alike h) refl measure_at_alike)
 
     -- two units of a chain that are the same lead on the same way
     chained_alike : (k l : ℕ → Told (Option ℕ)) → ((i : ℕ) → Named i → SameTold (k i) (l i)) → (c d : Chain) → SameChain Named c d → SameTold (chained k c) (chained l d)
@@ -211,7 +210,7 @@ module _ {Named : ℕ → Type 0} {s s' : List ℕ} where
     pub length_alike : (n : ℕ) (t t' : SeenRecord) → AlikeRecord Named s s' t t' → SameTold (length_of s find n t) (length_of s' find' n t')
     unfolding length_of
     length_alike zero t t' h =
-        both_on (SameChain Named) (λ a b. a ≡ b) (chained (λ i. good none)) (chained (λ i. good none)) (link_of s zero t) (link_of s' zero t') (link_alike h zero) (chained_alike (λ i. good none) (λ i. good none) (λ i k. refl))
+        both_on (SameChain Named) (λ a b. a ≡ b) (chained (λ i. good None)) (chained (λ i. good None)) (link_of s zero t) (link_of s' zero t') (link_alike h zero) (chained_alike (λ i. good None) (λ i. good None) (λ i k. refl))
     length_alike (suc n) t t' h =
         both_on (SameChain Named) (λ a b. a ≡ b) (chained (measure_in s find (λ b. length_of s find n b))) (chained (measure_in s' find' (λ b. length_of s' find' n b))) (link_of s (suc n) t) (link_of s' (suc n) t') (link_alike h (suc n))
         (chained_alike (measure_in s find (λ b. length_of s find n b)) (measure_in s' find' (λ b. length_of s' find' n b)) (measure_alike (λ b. length_of s find n b) (λ b. length_of s' find' n b) (length_alike n)))
@@ -219,12 +218,12 @@ module _ {Named : ℕ → Type 0} {s s' : List ℕ} where
     -- an angle's number, by an id that matters, is the same
     pub number_in_alike : (i : ℕ) → Named i → SameTold (angle_number s find i) (angle_number s' find' i)
     unfolding angle_number
-    number_in_alike i n = found_alike (good none) (λ t. read_or (next_of measure_of s t.run.start t.run.stop).answer (λ v. good (some v))) (λ t. read_or (next_of measure_of s' t.run.start t.run.stop).answer (λ v. good (some v))) i n
-        (λ t t' h. read_or_alike (next_of measure_of s t.run.start t.run.stop).answer (next_of measure_of s' t'.run.start t'.run.stop).answer (λ v. good (some v)) (λ v. good (some v)) (number_alike h.run) (λ v. refl))
+    number_in_alike i n = found_alike (good None) (λ t. read_or (next_of measure_of s t.run.start t.run.stop).answer (λ v. good (Some v))) (λ t. read_or (next_of measure_of s' t.run.start t.run.stop).answer (λ v. good (Some v))) i n
+        (λ t t' h. read_or_alike (next_of measure_of s t.run.start t.run.stop).answer (next_of measure_of s' t'.run.start t'.run.stop).answer (λ v. good (Some v)) (λ v. good (Some v)) (number_alike h.run) (λ v. refl))
 
     -- two alike angle units have the same factor
     pub angle_alike : (t t' : SeenRecord) → AlikeRecord Named s s' t t' → SameTold (angle_of s find t) (angle_of s' find' t')
     unfolding angle_of
-    angle_alike t t' h = by_alike h (λ a b. a ≡ b) (λ r. good (si_angle s r)) (λ r. good (si_angle s' r)) (λ r. onward (angle_number s find) (measure_ref s r)) (λ r. onward (angle_number s' find') (measure_ref s' r)) none refl
+    angle_alike t t' h = by_alike h (λ a b. a ≡ b) (λ r. good (si_angle s r)) (λ r. good (si_angle s' r)) (λ r. onward (angle_number s find) (measure_ref s r)) (λ r. onward (angle_number s' find') (measure_ref s' r)) None refl
         (λ r r' k. si_angle_alike k)
         (λ r r' k. same_on_read (angle_number s find) (angle_number s' find') (measure_ref s r) (measure_ref s' r') (ref_alike k) (λ i e. number_in_alike i (ref_named k i e)))
