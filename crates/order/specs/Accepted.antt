@@ -1,24 +1,23 @@
 -- "The new file is accepted with the same rooms": its rows are those of the texts in its records' places. Assumes nothing.
-use Rattle.std.specs.Prelude.{ℕ, ◌+◌, ◌≤◌, ◌≡◌, refl, Bool, true, false, not, List, [], ◌∷◌, ◌++◌, eqb, length}
-use Rattle.std.proofs.Common.{sym, ◌∙◌, ap, subst, append_assoc, arith, eqb-true, ne_eqb, length-append}
+use Rattle.std.specs.Prelude.{ℕ, ◌+◌, ◌≤◌, ◌≡◌, refl, true, not, List, [], ◌∷◌, ◌++◌, eqb, length}
+use Rattle.std.proofs.Common.{sym, ◌∙◌, ap, subst, append_assoc, arith, ne_eqb, length-append}
 use Rattle.std.proofs.Math.Decide.{ℕ_discrete}
 use Rattle.common.specs.Compare.{clash}
-use Rattle.error.specs.Refusal.{Told, good, bad}
+use Rattle.error.specs.Refusal.{good}
 use Rattle.lex.specs.Byte.{white}
 use Rattle.record.specs.Form.{All, Free}
 use Rattle.common.specs.Bytes.{bytes}
 use Rattle.record.specs.FormRight.Parts.{all_join, all_kind}
 use Rattle.statement.specs.Rows.{Row, HeaderRow}
 use Rattle.statement.specs.Closed.{Closed}
-use Rattle.statement.specs.declared.Section.{Section}
-use Rattle.statement.specs.declared.Section.TheVariants.{Outside, InHeader, InData}
+use Rattle.statement.specs.declared.Section.TheVariants.{Outside}
 use Rattle.scan.specs.Records.{Table}
 use Rattle.scan.specs.File.{scan_of}
-use Rattle.scan.specs.Form.{rows_per_kind, Marked, Reads, Scans}
+use Rattle.scan.specs.Form.{rows_per_kind, Marked, Scans}
 use Rattle.scan.specs.FormRight.{scans_only, scans_is}
 use Rattle.scan.specs.Rooms.{scan_roomy, scan_fit}
-use Rattle.order.specs.Order.{CutFile, no_more_records, next_record, fronted_by, texts, file_with, Cuts, Permuted}
-use Rattle.order.specs.Shape.{Fit, AllFitTexts, AllSay, AllHead, FileShape, led_filled, ReadsTo, read_filled}
+use Rattle.order.specs.Order.{CutFile, no_more_records, next_record, texts, file_with, Cuts, Permuted}
+use Rattle.order.specs.Shape.{AllFitTexts, AllSay, AllHead, FileShape, led_filled, read_filled}
 use Rattle.order.specs.Cuts.{cuts_one, filled_own, Shaped, closed_shaped}
 
 -- texts in another order are as many as before

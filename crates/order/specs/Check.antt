@@ -1,8 +1,7 @@
 -- The cut of a file, and whether the file is closed, by computation: what is found is so. With these a file is shown to meet demand 3's
 -- premises by computing alone (Concrete.antt, Needed.antt). Assumes nothing.
-use Rattle.std.specs.Prelude.{ℕ, zero, suc, ◌-◌, ◌≡◌, refl, Bool, true, false, ◌&&◌, not, List, [], ◌∷◌, ◌++◌, eqb, length, take, drop}
+use Rattle.std.specs.Prelude.{ℕ, zero, suc, ◌-◌, ◌≡◌, refl, Bool, true, false, ◌&&◌, not, List, [], ◌∷◌, ◌++◌, eqb, length, take, drop, Result, Ok, Err, Option, None, Some}
 use Rattle.std.proofs.Common.{sym, ◌∙◌, ap, subst, append_assoc, append-nil, arith, eqb-true, length-append, length-drop, take-append-drop, take_at, length-take-le}
-use Rattle.std.proofs.Math.Option.{Option, none, some}
 use Rattle.std.proofs.lemmas.Bool.{eqb-false}
 use Rattle.common.specs.Pick.{pick}
 use Rattle.common.specs.Compare.{clash}
@@ -17,7 +16,9 @@ use Rattle.record.specs.Form.{Free}
 use Rattle.record.specs.FormRight.Parts.{SplitAfter, split_is, past_pass, past_halt}
 use Rattle.record.specs.Head.{data_head, header_head}
 use Rattle.record.specs.declared.Head.{Head}
-use Rattle.record.specs.declared.Head.TheVariants.{Bad, Complex, Simple}
+use Rattle.record.specs.declared.Head.TheVariants.{Complex, Simple}
+use Rattle.record.specs.declared.Named.{Named}
+use Rattle.error.specs.declared.Reason.{Reason}
 use Rattle.statement.specs.Rows.{Row, HeaderRow, Stmt, reading_ends, statement_refused, section_now, header_statement, data_statement}
 use Rattle.statement.specs.Statement.{statement}
 use Rattle.statement.specs.Closed.{OutsideBoth, ClosedAt, ClosedParts, ClosedData, ClosedHeader, ClosedFrom}
@@ -65,19 +66,19 @@ clear_is f t h = go (record_end (f ++ (59 ∷ []))) refl h
 -- ---- a `)` that closes
 -- what follows the byte that a search finds
 abbrev following : Sought → Option (List ℕ)
-following (at []) = none
-following (at (c ∷ r)) = some r
-following (fault n o) = none
+following (at []) = None
+following (at (c ∷ r)) = Some r
+following (fault n o) = None
 
 -- what follows the `)` of a `(` that t follows
 unfoldable pub closed_by : List ℕ → Option (List ℕ)
 closed_by t = following (closing (40 ∷ t))
 
-closed_by_lem : (t k : List ℕ) → closed_by t ≡ some k → (t ≡ before t (41 ∷ k) ++ (41 ∷ k)) × Closes t k
+closed_by_lem : (t k : List ℕ) → closed_by t ≡ Some k → (t ≡ before t (41 ∷ k) ++ (41 ∷ k)) × Closes t k
 unfolding closed_by
 closed_by_lem t k h = go (closing (40 ∷ t)) refl h
   where
-    go : (x : Sought) → closing (40 ∷ t) ≡ x → following x ≡ some k → (t ≡ before t (41 ∷ k) ++ (41 ∷ k)) × Closes t k
+    go : (x : Sought) → closing (40 ∷ t) ≡ x → following x ≡ Some k → (t ≡ before t (41 ∷ k) ++ (41 ∷ k)) × Closes t k
     go (fault n o) e g = clash (cc)
     go (at []) e g = clash (cc)
     go (at (c ∷ r)) e g =
@@ -91,24 +92,24 @@ closed_by_lem t k h = go (closing (40 ∷ t)) refl h
 -- ---- a record's `(`
 -- what follows a `(` at the start of a list, if there is one
 abbrev opening : List ℕ → Option (List ℕ)
-opening [] = none
-opening (c ∷ t) = pick (eqb c 40) (some t) none
+opening [] = None
+opening (c ∷ t) = pick (eqb c 40) (Some t) None
 
 -- an option goes on by k; none stays none
 abbrev and_so : {A B : Type 0} → Option A → (A → Option B) → Option B
-and_so none k = none
-and_so (some a) k = k a
+and_so None k = None
+and_so (Some a) k = k a
 
 -- "`(` lies outside strings and comments and closes before that record's `;`": the arguments between the `(` at the place o of the
 -- record's text and its `)`
 unfoldable pub args_at : List ℕ → ℕ → Option (List ℕ)
-args_at b o = pick (clear (take o b)) (and_so (opening (drop o b)) (λ t. and_so (closed_by t) (λ k. some (before t (41 ∷ k))))) none
+args_at b o = pick (clear (take o b)) (and_so (opening (drop o b)) (λ t. and_so (closed_by t) (λ k. Some (before t (41 ∷ k))))) None
 
-args_at_lem : (b : List ℕ) (o : ℕ) (a : List ℕ) → args_at b o ≡ some a → (c : ClosedAt b o) × (c.args ≡ a)
+args_at_lem : (b : List ℕ) (o : ℕ) (a : List ℕ) → args_at b o ≡ Some a → (c : ClosedAt b o) × (c.args ≡ a)
 unfolding args_at
 args_at_lem b o a h = by (clear (take o b)) refl h
   where
-    made : (t k : List ℕ) → clear (take o b) ≡ true → drop o b ≡ 40 ∷ t → closed_by t ≡ some k → before t (41 ∷ k) ≡ a
+    made : (t k : List ℕ) → clear (take o b) ≡ true → drop o b ≡ 40 ∷ t → closed_by t ≡ Some k → before t (41 ∷ k) ≡ a
         → (c : ClosedAt b o) × (c.args ≡ a)
     made t k u d e g =
         let (p, q) = closed_by_lem t k e in
@@ -127,21 +128,21 @@ args_at_lem b o a h = by (clear (take o b)) refl h
         )
 
     shut : (t : List ℕ) → clear (take o b) ≡ true → drop o b ≡ 40 ∷ t → (x : Option (List ℕ)) → closed_by t ≡ x
-        → and_so x (λ k. some (before t (41 ∷ k))) ≡ some a → (c : ClosedAt b o) × (c.args ≡ a)
-    shut t u d none e g = clash (cc)
-    shut t u d (some k) e g = made t k u d e (cc)
+        → and_so x (λ k. Some (before t (41 ∷ k))) ≡ Some a → (c : ClosedAt b o) × (c.args ≡ a)
+    shut t u d None e g = clash (cc)
+    shut t u d (Some k) e g = made t k u d e (cc)
 
     from : (xs : List ℕ) → clear (take o b) ≡ true → drop o b ≡ xs
-        → and_so (opening xs) (λ t. and_so (closed_by t) (λ k. some (before t (41 ∷ k)))) ≡ some a → (c : ClosedAt b o) × (c.args ≡ a)
+        → and_so (opening xs) (λ t. and_so (closed_by t) (λ k. Some (before t (41 ∷ k)))) ≡ Some a → (c : ClosedAt b o) × (c.args ≡ a)
     from [] u d g = clash (cc)
     from (c ∷ t) u d g = first (eqb c 40) refl g
       where
-        first : (x : Bool) → eqb c 40 ≡ x → and_so (pick x (some t) none) (λ t. and_so (closed_by t) (λ k. some (before t (41 ∷ k)))) ≡ some a
+        first : (x : Bool) → eqb c 40 ≡ x → and_so (pick x (Some t) None) (λ t. and_so (closed_by t) (λ k. Some (before t (41 ∷ k)))) ≡ Some a
             → (c : ClosedAt b o) × (c.args ≡ a)
         first false e m = clash (cc)
         first true e m = shut t u (d ∙ ap (λ (z : ℕ). z ∷ t) (eqb-true c 40 e)) (closed_by t) refl m
 
-    by : (x : Bool) → clear (take o b) ≡ x → pick x (and_so (opening (drop o b)) (λ t. and_so (closed_by t) (λ k. some (before t (41 ∷ k))))) none ≡ some a
+    by : (x : Bool) → clear (take o b) ≡ x → pick x (and_so (opening (drop o b)) (λ t. and_so (closed_by t) (λ k. Some (before t (41 ∷ k))))) None ≡ Some a
         → (c : ClosedAt b o) × (c.args ≡ a)
     by false u g = clash (cc)
     by true u g = from (drop o b) u refl g
@@ -153,8 +154,8 @@ unopening d = not (eqb d 40)
 
 -- an option is something, and k holds of it
 abbrev holds_by : Option (List ℕ) → (List ℕ → Bool) → Bool
-holds_by none k = false
-holds_by (some t) k = k t
+holds_by None k = false
+holds_by (Some t) k = k t
 
 -- the rest of the arguments a from the next `(` byte on: there is none; or it lies outside both, and k holds after its `)`
 abbrev part_by : List ℕ → List ℕ → (List ℕ → Bool) → Bool
@@ -166,8 +167,8 @@ part_by_lem a k h i = split (split_is unopening a)
   where
     after : (f r : List ℕ) → a ≡ f ++ (40 ∷ r) → Free 40 f → clear f ≡ true → (x : Option (List ℕ)) → closed_by r ≡ x → holds_by x k ≡ true
         → ClosedParts a
-    after f r e u m none g n = clash (cc)
-    after f r e u m (some t) g n =
+    after f r e u m None g n = clash (cc)
+    after f r e u m (Some t) g n =
         ClosedParts.part f e u (subst (λ (z : List ℕ). OutsideBoth z (40 ∷ r)) (sym e) (clear_is f r m)) (closed_by_lem r t g).1 (i t n)
 
     both : (f r : List ℕ) → a ≡ f ++ (40 ∷ r) → Free 40 f → (x : Bool) → clear f ≡ x → (x && holds_by (closed_by r) k) ≡ true → ClosedParts a
@@ -202,10 +203,10 @@ parts_closed_lem (suc n) a h = part_by_lem a (λ t. parts_closed n t) h (λ t g.
 
 -- ---- a record's text
 -- a data record's text is closed, by its head
-abbrev data_by : List ℕ → Head → Bool
-data_by b (Bad why) = false
-data_by b (Simple i a z o) = holds_by (args_at b o) (λ a. true)
-data_by b (Complex i o) = holds_by (args_at b o) (parts_closed (length b))
+abbrev data_by : List ℕ → Result Head Reason → Bool
+data_by b (Err why) = false
+data_by b (Ok (Simple i a z o)) = holds_by (args_at b o) (λ a. true)
+data_by b (Ok (Complex i o)) = holds_by (args_at b o) (parts_closed (length b))
 
 -- "each [..] data record's `(` [..], and each complex record's parts": a data record's text is closed
 unfoldable pub data_closed : List ℕ → Bool
@@ -215,24 +216,23 @@ data_closed_lem : (b : List ℕ) → data_closed b ≡ true → ClosedData b
 unfolding data_closed
 data_closed_lem b h = go (data_head b) refl h
   where
-    simple : {i a z o : ℕ} → data_head b ≡ Simple i a z o → (x : Option (List ℕ)) → args_at b o ≡ x → holds_by x (λ a. true) ≡ true → ClosedData b
-    simple e none g m = clash (cc)
-    simple {o} e (some a) g m = ClosedData.simple e (args_at_lem b o a g).0
+    simple : {i a z o : ℕ} → data_head b ≡ Ok (Simple i a z o) → (x : Option (List ℕ)) → args_at b o ≡ x → holds_by x (λ a. true) ≡ true → ClosedData b
+    simple e None g m = clash (cc)
+    simple {o} e (Some a) g m = ClosedData.simple e (args_at_lem b o a g).0
 
-    complex : {i o : ℕ} → data_head b ≡ Complex i o → (x : Option (List ℕ)) → args_at b o ≡ x → holds_by x (parts_closed (length b)) ≡ true → ClosedData b
-    complex e none g m = clash (cc)
-    complex {o} e (some a) g m = let (c, p) = args_at_lem b o a g in ClosedData.complex e c (rw p (parts_closed_lem (length b) a m))
+    complex : {i o : ℕ} → data_head b ≡ Ok (Complex i o) → (x : Option (List ℕ)) → args_at b o ≡ x → holds_by x (parts_closed (length b)) ≡ true → ClosedData b
+    complex e None g m = clash (cc)
+    complex {o} e (Some a) g m = let (c, p) = args_at_lem b o a g in ClosedData.complex e c (rw p (parts_closed_lem (length b) a m))
 
-    go : (x : Head) → data_head b ≡ x → data_by b x ≡ true → ClosedData b
-    go (Bad why) e m = clash (cc)
-    go (Simple i a z o) e m = simple e (args_at b o) refl m
-    go (Complex i o) e m = complex e (args_at b o) refl m
+    go : (x : Result Head Reason) → data_head b ≡ x → data_by b x ≡ true → ClosedData b
+    go (Err why) e m = clash (cc)
+    go (Ok (Simple i a z o)) e m = simple e (args_at b o) refl m
+    go (Ok (Complex i o)) e m = complex e (args_at b o) refl m
 
 -- a header record's text is closed, by its head
-abbrev header_by : List ℕ → Head → Bool
-header_by b (Bad why) = false
-header_by b (Simple i a z o) = holds_by (args_at b o) (λ a. true)
-header_by b (Complex i o) = false
+abbrev header_by : List ℕ → Result Named Reason → Bool
+header_by b (Err why) = false
+header_by b (Ok h) = holds_by (args_at b h.opening) (λ a. true)
 
 -- "each header [..] record's `(`": a header record's text is closed
 unfoldable pub header_closed : List ℕ → Bool
@@ -242,14 +242,13 @@ header_closed_lem : (b : List ℕ) → header_closed b ≡ true → ClosedHeader
 unfolding header_closed
 header_closed_lem b h = go (header_head b) refl h
   where
-    simple : {i a z o : ℕ} → header_head b ≡ Simple i a z o → (x : Option (List ℕ)) → args_at b o ≡ x → holds_by x (λ a. true) ≡ true → ClosedHeader b
-    simple e none g m = clash (cc)
-    simple {o} e (some a) g m = ClosedHeader.named e (args_at_lem b o a g).0
+    named : (h : Named) → header_head b ≡ Ok h → (x : Option (List ℕ)) → args_at b h.opening ≡ x → holds_by x (λ a. true) ≡ true → ClosedHeader b
+    named h e None g m = clash (cc)
+    named h e (Some a) g m = ClosedHeader.named e (args_at_lem b h.opening a g).0
 
-    go : (x : Head) → header_head b ≡ x → header_by b x ≡ true → ClosedHeader b
-    go (Bad why) e m = clash (cc)
-    go (Simple i a z o) e m = simple e (args_at b o) refl m
-    go (Complex i o) e m = clash (cc)
+    go : (x : Result Named Reason) → header_head b ≡ x → header_by b x ≡ true → ClosedHeader b
+    go (Err why) e m = clash (cc)
+    go (Ok h) e m = named h e (args_at b h.opening) refl m
 
 -- ---- the file
 -- the text of a record that starts with the rest ys, where r follows its `;`
@@ -293,40 +292,40 @@ closed_from_lem (suc n) s sec xs h = closed_step_lem s sec xs (λ to r. closed_f
 
 -- what a statement adds to the cut of what follows it, which k gives
 abbrev cut_step : List ℕ → Stmt → (Section → List ℕ → Option CutFile) → Option CutFile
-cut_step xs reading_ends k = some (no_more_records xs)
-cut_step xs (statement_refused q) k = none
-cut_step xs (section_now to r) k = and_so (k to r) (λ c. some (fronted_by (before xs r) c))
-cut_step xs (header_statement w ys r) k = and_so (k InHeader r) (λ c. some (fronted_by (before xs r) c))
-cut_step xs (data_statement w ys r) k = and_so (k InData r) (λ c. some (next_record (before xs ys) (text_of ys r) (fronted_by (59 ∷ []) c)))
+cut_step xs reading_ends k = Some (no_more_records xs)
+cut_step xs (statement_refused q) k = None
+cut_step xs (section_now to r) k = and_so (k to r) (λ c. Some (fronted_by (before xs r) c))
+cut_step xs (header_statement w ys r) k = and_so (k InHeader r) (λ c. Some (fronted_by (before xs r) c))
+cut_step xs (data_statement w ys r) k = and_so (k InData r) (λ c. Some (next_record (before xs ys) (text_of ys r) (fronted_by (59 ∷ []) c)))
 
 -- the reader's own cut of the file s, from the rest xs on in a section, of fewer statements than n
 unfoldable pub cut_from : ℕ → List ℕ → Section → List ℕ → Option CutFile
-cut_from zero s sec xs = none
+cut_from zero s sec xs = None
 cut_from (suc n) s sec xs = cut_step xs (statement s sec xs) (λ to r. cut_from n s to r)
 
 cut_step_lem : (s : List ℕ) (sec : Section) (xs : List ℕ) (k : Section → List ℕ → Option CutFile) (c : CutFile)
-    → cut_step xs (statement s sec xs) k ≡ some c → ((to : Section) (r : List ℕ) (d : CutFile) → k to r ≡ some d → Cuts s to r d) → Cuts s sec xs c
+    → cut_step xs (statement s sec xs) k ≡ Some c → ((to : Section) (r : List ℕ) (d : CutFile) → k to r ≡ Some d → Cuts s to r d) → Cuts s sec xs c
 cut_step_lem s sec xs k c h i = go (step s sec xs) refl h
   where
     turned : {to : Section} (f r : List ℕ) → xs ≡ f ++ r → statement s sec xs ≡ section_now to r → (x : Option CutFile) → k to r ≡ x
-        → and_so x (λ d. some (fronted_by (before xs r) d)) ≡ some c → Cuts s sec xs c
-    turned f r p e none g m = clash (cc)
-    turned {to} f r p e (some d) g m =
+        → and_so x (λ d. Some (fronted_by (before xs r) d)) ≡ Some c → Cuts s sec xs c
+    turned f r p e None g m = clash (cc)
+    turned {to} f r p e (Some d) g m =
         let q : fronted_by (before xs r) d ≡ c = cc in
         rw q at (Cuts.turn (before xs r) (before_whole f r p) e (i to r d g))
 
     headed : {w : HeaderRow} {ys : List ℕ} (f r : List ℕ) → xs ≡ f ++ r → statement s sec xs ≡ header_statement w ys r → (x : Option CutFile) → k InHeader r ≡ x
-        → and_so x (λ d. some (fronted_by (before xs r) d)) ≡ some c → Cuts s sec xs c
-    headed f r p e none g m = clash (cc)
-    headed f r p e (some d) g m =
+        → and_so x (λ d. Some (fronted_by (before xs r) d)) ≡ Some c → Cuts s sec xs c
+    headed f r p e None g m = clash (cc)
+    headed f r p e (Some d) g m =
         let q : fronted_by (before xs r) d ≡ c = cc in
         rw q at (Cuts.heading (before xs r) (before_whole f r p) e (i InHeader r d g))
 
     entered : {w : Row} (t b r : List ℕ) → xs ≡ t ++ (b ++ (59 ∷ r)) → statement s sec xs ≡ data_statement w (b ++ (59 ∷ r)) r
         → (x : Option CutFile) → k InData r ≡ x
-        → and_so x (λ d. some (next_record (before xs (b ++ (59 ∷ r))) (text_of (b ++ (59 ∷ r)) r) (fronted_by (59 ∷ []) d))) ≡ some c → Cuts s sec xs c
-    entered t b r p e none g m = clash (cc)
-    entered t b r p e (some d) g m =
+        → and_so x (λ d. Some (next_record (before xs (b ++ (59 ∷ r))) (text_of (b ++ (59 ∷ r)) r) (fronted_by (59 ∷ []) d))) ≡ Some c → Cuts s sec xs c
+    entered t b r p e None g m = clash (cc)
+    entered t b r p e (Some d) g m =
         let u : text_of (b ++ (59 ∷ r)) r ≡ b = before_rest b (59 ∷ r) in
         let q : next_record (before xs (b ++ (59 ∷ r))) b (fronted_by (59 ∷ []) d) ≡ c = cc in
         rw q at (Cuts.entry {g = before xs (b ++ (59 ∷ r))} {b = b} (before_whole t (b ++ (59 ∷ r)) p) e (i InData r d g))
@@ -334,7 +333,7 @@ cut_step_lem s sec xs k c h i = go (step s sec xs) refl h
     ahead : (t b r : List ℕ) → t ++ (b ++ (59 ∷ r)) ≡ ((t ++ b) ++ (59 ∷ [])) ++ r
     ahead t b r = sym (append_assoc t b _) ∙ sym (append_assoc (t ++ b) (59 ∷ []) r)
 
-    go : {x : Stmt} → StatementCase s sec xs x → statement s sec xs ≡ x → cut_step xs x k ≡ some c → Cuts s sec xs c
+    go : {x : Stmt} → StatementCase s sec xs x → statement s sec xs ≡ x → cut_step xs x k ≡ Some c → Cuts s sec xs c
     go (StatementCase.over l) e m = let q : no_more_records xs ≡ c = cc in rw q at (Cuts.over e)
     go (StatementCase.faulty q) e m = clash (cc)
     go (StatementCase.turn t b r to p st l) e m = turned ((t ++ b) ++ (59 ∷ [])) r (p ∙ ahead t b r) e (k to r) refl m
@@ -342,7 +341,7 @@ cut_step_lem s sec xs k c h i = go (step s sec xs) refl h
     go (StatementCase.entry t b r w p st l) e m = entered t b r p e (k InData r) refl m
 
 -- what the computation calls the cut of a file is its cut
-pub cut_from_lem : (n : ℕ) (s : List ℕ) (sec : Section) (xs : List ℕ) (c : CutFile) → cut_from n s sec xs ≡ some c → Cuts s sec xs c
+pub cut_from_lem : (n : ℕ) (s : List ℕ) (sec : Section) (xs : List ℕ) (c : CutFile) → cut_from n s sec xs ≡ Some c → Cuts s sec xs c
 unfolding cut_from
 cut_from_lem zero s sec xs c h = clash (cc)
 cut_from_lem (suc n) s sec xs c h = cut_step_lem s sec xs (λ to r. cut_from n s to r) c h (λ to r d g. cut_from_lem n s to r d g)

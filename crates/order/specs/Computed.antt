@@ -3,7 +3,7 @@ use Rattle.std.specs.Float.Ieee.{size}
 use Rattle.common.specs.Walk.{walk}
 use Rattle.lex.specs.Search.{trivia, record_end, closing}
 use Rattle.record.specs.Text.{past, number_from, keyword, trail}
-use Rattle.record.specs.Word.{same_bytes, word_of}
+use Rattle.record.specs.Word.{word_of}
 use Rattle.record.specs.Head.{data_head, header_head}
 use Rattle.statement.specs.Row.{record_of, header_of}
 use Rattle.statement.specs.Statement.{statement}
@@ -36,7 +36,7 @@ use Rattle.order.specs.Check.{clear, closed_by, args_at, parts_closed, data_clos
 
 -- what is unfolded to read a file
 unfoldable pub reading_unfolded : Unit {0}
-unfolding walk trivia record_end closing past number_from keyword trail same_bytes word_of data_head header_head record_of header_of statement read_from scan_of
+unfolding walk trivia record_end closing past number_from keyword trail word_of data_head header_head record_of header_of statement read_from scan_of
 reading_unfolded = tt
 
 -- what is unfolded to cut a file, and to tell whether it is closed

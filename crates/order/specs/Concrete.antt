@@ -1,9 +1,8 @@
 -- Demand 3's premises can be met: here is a file that meets them all, by computation. It has a header, blanks, comments between records,
 -- two data sections, two unit contexts of which the first gives its lengths in inches by a conversion, complex records and two records
 -- of one id; and six of its seven records change places, four of them for places in the other data section. Assumes nothing.
-use Rattle.std.specs.Prelude.{ℕ, ◌≡◌, refl, Bool, true, false, ◌&&◌, List, [], ◌∷◌, ◌++◌, eqb}
+use Rattle.std.specs.Prelude.{ℕ, ◌≡◌, refl, Bool, true, false, ◌&&◌, List, [], ◌∷◌, ◌++◌, eqb, Some}
 use Rattle.std.proofs.Common.{subst}
-use Rattle.std.proofs.Math.Option.{some}
 use Rattle.error.specs.Refusal.{good}
 use Rattle.common.specs.Bytes.{bytes}
 use Rattle.statement.specs.Rows.{row, header_row}
@@ -152,7 +151,7 @@ file_rearranged =
 
 -- ---- what it says
 -- of the file's two records with the id 6 the later is served
-pub file_served : served example_file file_rows 6 ≡ some (record { id = 6; keyword = bytes "B"; args = bytes "';','/*'"; complex = 0 })
+pub file_served : served example_file file_rows 6 ≡ Some (record { id = 6; keyword = bytes "B"; args = bytes "';','/*'"; complex = 0 })
 unfolding resolving
 file_served = refl
 

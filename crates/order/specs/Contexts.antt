@@ -1,9 +1,8 @@
 -- What the units see of a closed record is the same wherever its text stands. Assumes nothing.
-use Rattle.std.specs.Prelude.{ℕ, ◌≡◌, refl, Bool, true, false, List, [], ◌∷◌, ◌++◌, map, length}
-use Rattle.std.proofs.Common.{sym, ◌∙◌, ap, append-nil}
-use Rattle.std.proofs.Math.Option.{Option, none, some}
+use Rattle.std.specs.Prelude.{ℕ, ◌≡◌, refl, Bool, true, false, List, [], ◌∷◌, ◌++◌, map, length, Option, None, Some}
+use Rattle.std.proofs.Common.{sym, append-nil}
 use Rattle.common.specs.Pick.{pick}
-use Rattle.error.specs.Refusal.{Told, good, bad}
+use Rattle.error.specs.Refusal.{Told, good}
 use Rattle.statement.specs.Rows.{Row}
 use Rattle.statement.specs.Row.{record_of}
 use Rattle.statement.specs.Closed.{ClosedData}
@@ -13,7 +12,7 @@ use Rattle.factors.specs.SeenRecords.{UnitPart, SeenRecord, seen_record_at, seen
 use Rattle.units.specs.Answer.{is_context}
 use Rattle.alike.specs.Alike.{BothTold, BothList, AlikeRecord, AlikeFound, AlikeFind, Every}
 use Rattle.alike.specs.Closed.{closed_seen_good, closed_parts_good, closed_seen_alike}
-use Rattle.alike.specs.Contexts.{told_true, contexts_of, ContextsAsked, context_told, context_same}
+use Rattle.alike.specs.Contexts.{contexts_of, ContextsAsked, context_told, context_same}
 use Rattle.lookup.specs.Records.{last_of}
 use Rattle.order.specs.Order.{those, of_id, context_text, contexts_in}
 use Rattle.order.specs.Shape.{RowSays, AllSay}
@@ -44,12 +43,12 @@ says_alike {f} {g} {w} {v} {b} k l = go f g w v k.shape l.shape k.row l.row
 -- ---- lookups
 -- two records that are served for one text, or none for none, are alike
 found_alike : (f g : List ℕ) (x y : Option Row) (z : Option (List ℕ)) → FoundSay f x z → FoundSay g y z → AlikeFound Every f g (seen_record_found f x) (seen_record_found g y)
-found_alike f g none none none h k = tt
-found_alike f g none (some v) none h k = absurd k
-found_alike f g (some w) y none h k = absurd h
-found_alike f g none y (some b) h k = absurd h
-found_alike f g (some w) none (some b) h k = absurd k
-found_alike f g (some w) (some v) (some b) h k = rw (says_thing h, says_thing k) (says_alike h k)
+found_alike f g None None None h k = tt
+found_alike f g None (Some v) None h k = absurd k
+found_alike f g (Some w) y None h k = absurd h
+found_alike f g None y (Some b) h k = absurd h
+found_alike f g (Some w) None (Some b) h k = absurd k
+found_alike f g (Some w) (Some v) (Some b) h k = rw (says_thing h, says_thing k) (says_alike h k)
 
 -- all lookups are alike, where the order of records with equal ids is kept
 pub finds_alike : (f g : List ℕ) (ws vs : List Row) (ts us : List (List ℕ)) → AllSay f ws ts → AllSay g vs us → ((k : ℕ) → of_id k ts ≡ of_id k us)

@@ -1,16 +1,16 @@
 -- A closed file has just one cut, and what it is made of. Assumes nothing.
 use Rattle.std.specs.Prelude.{ℕ, ◌≡◌, refl, List, [], ◌∷◌, ◌++◌}
-use Rattle.std.proofs.Common.{sym, ◌∙◌, ap, append_assoc}
+use Rattle.std.proofs.Common.{sym, ◌∙◌, append_assoc}
 use Rattle.std.proofs.lemmas.List.{append_cancel_right}
 use Rattle.common.specs.Compare.{clash}
-use Rattle.statement.specs.Rows.{Row, HeaderRow, Stmt, reading_ends, statement_refused, section_now, header_statement, data_statement}
+use Rattle.statement.specs.Rows.{Row, HeaderRow, reading_ends, section_now, header_statement, data_statement}
 use Rattle.statement.specs.Statement.{statement}
 use Rattle.statement.specs.Closed.{ClosedData, ClosedHeader, ClosedFrom}
-use Rattle.statement.specs.ClosedRight.Statements.{StandsAsRecord, stands_as_record_any, StatementCase, step, data_stands, header_stands}
+use Rattle.statement.specs.ClosedRight.Statements.{stands_as_record_any, StatementCase, step, data_stands, header_stands}
 use Rattle.statement.specs.declared.Section.{Section}
-use Rattle.statement.specs.declared.Section.TheVariants.{Outside, InHeader, InData}
+use Rattle.statement.specs.declared.Section.TheVariants.{InHeader, InData}
 use Rattle.order.specs.Order.{CutFile, no_more_records, next_record, fronted_by, texts, file_with, Cuts}
-use Rattle.order.specs.Shape.{Fit, AllFitTexts, FileShape, led_filled, led_texts}
+use Rattle.order.specs.Shape.{AllFitTexts, FileShape, led_filled, led_texts}
 
 -- a file has only one cut
 pub cuts_one : {s : List ℕ} {sec : Section} {xs : List ℕ} {c d : CutFile} → Cuts s sec xs c → Cuts s sec xs d → c ≡ d

@@ -1,14 +1,14 @@
 -- Rearrangements that a user meets: none, one after the other, two neighbours, and two records whose ids nobody else has.
 -- Assumes nothing.
-use Rattle.std.specs.Prelude.{ℕ, ◌≡◌, Bool, ◌&&◌, eqb}
+use Rattle.std.specs.Prelude.{ℕ, ◌≡◌, Bool, ◌&&◌}
 use Rattle.std.proofs.Math.Path.{refl, ap}
 use Rattle.std.proofs.Common.{sym, ◌∙◌}
 use Rattle.std.proofs.Math.Bool.{true, false}
-use mathlib.Core.List.{List, [], ◌∷◌, ◌++◌, append_assoc}
+use mathlib.Core.List.{List, [], ◌∷◌, ◌++◌}
 use Rattle.common.specs.Pick.{pick}
 use Rattle.common.specs.Compare.{clash}
 use Rattle.record.specs.Head.{data_head}
-use Rattle.order.specs.Order.{Permuted, head_has_id, those, of_id, context_text, contexts_in, Rearranged}
+use Rattle.order.specs.Order.{Permuted, head_has_id, those, of_id, context_text, Rearranged}
 
 -- ---- the same texts in another order
 -- texts are themselves in another order, where nothing changes places

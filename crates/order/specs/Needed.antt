@@ -1,10 +1,9 @@
 -- None of demand 3's premises can be left out: for each, the demand without it, and a file that refutes that. Assumes nothing.
-use Rattle.std.specs.Prelude.{ℕ, ◌≡◌, refl, true, List, [], ◌∷◌}
+use Rattle.std.specs.Prelude.{ℕ, ◌≡◌, refl, true, List, [], ◌∷◌, Option, None, Some}
 use Rattle.std.proofs.Common.{sym, ◌∙◌, ap}
-use Rattle.std.proofs.Math.Option.{Option, none, some}
 use Rattle.std.proofs.lemmas.Bool.{eqb-false}
 use Rattle.common.specs.Compare.{clash}
-use Rattle.error.specs.Refusal.{refusal, Told, good, bad}
+use Rattle.error.specs.Refusal.{refusal, good, bad}
 use Rattle.common.specs.Bytes.{bytes}
 use Rattle.record.specs.Head.{data_head}
 use Rattle.statement.specs.Rows.{row}
@@ -62,8 +61,8 @@ unfolding checking
 twins_cut = (cut_from_lem 5 twins Outside twins twin_cut refl, refl)
 
 -- of two records with one id `B` is served in the one order, `A` in the other
-pub twins_served : (served twins twin_rows 1 ≡ some (record { id = 1; keyword = bytes "B"; args = []; complex = 0 }))
-    × (served swapped_twins twin_rows 1 ≡ some (record { id = 1; keyword = bytes "A"; args = []; complex = 0 }))
+pub twins_served : (served twins twin_rows 1 ≡ Some (record { id = 1; keyword = bytes "B"; args = []; complex = 0 }))
+    × (served swapped_twins twin_rows 1 ≡ Some (record { id = 1; keyword = bytes "A"; args = []; complex = 0 }))
 unfolding resolving
 twins_served = (refl, refl)
 
@@ -74,8 +73,8 @@ twins_contexts = refl
 
 -- the keyword of a record that is served, empty for none
 abbrev key_of : Option Content → List ℕ
-key_of none = []
-key_of (some k) = k.keyword
+key_of None = []
+key_of (Some k) = k.keyword
 
 -- without the order of records with equal ids being kept, demand 3 is false
 pub ids_needed : WithoutIds → ⊥

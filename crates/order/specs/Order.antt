@@ -7,16 +7,16 @@
 -- kept and what stays the same stands here; `Demand` is the whole sentence, and Right.antt proves it.
 -- Assumes nothing.
 -- Definitions to be believed: no law, and nothing computed that no theorem ties (docs/BELIEVE.md).
-use Rattle.std.specs.Prelude.{ℕ, ◌≡◌, Bool, true, false, List, [], ◌∷◌, ◌++◌, map, eqb}
-use Rattle.std.proofs.Math.Option.{Option, none, some}
+use Rattle.std.specs.Prelude.{ℕ, ◌≡◌, Bool, false, List, [], ◌∷◌, ◌++◌, map, eqb, Result, Ok, Err, Option, None, Some}
 use Rattle.common.specs.Pick.{pick}
 use Rattle.error.specs.Refusal.{Told, good, bad}
+use Rattle.error.specs.declared.Reason.{Reason}
 use Rattle.record.specs.Head.{data_head}
 use Rattle.record.specs.declared.Head.{Head}
-use Rattle.record.specs.declared.Head.TheVariants.{Bad, Complex, Simple}
+use Rattle.record.specs.declared.Head.TheVariants.{Complex, Simple}
 use Rattle.statement.specs.Rows.{Row, HeaderRow, reading_ends, section_now, header_statement, data_statement}
 use Rattle.statement.specs.Row.{record_of}
-use Rattle.statement.specs.Closed.{Closed, Content, content, HeaderContent, header_content}
+use Rattle.statement.specs.Closed.{Closed, Content, content, header_content}
 use Rattle.statement.specs.Statement.{statement}
 use Rattle.statement.specs.declared.Section.{Section}
 use Rattle.statement.specs.declared.Section.TheVariants.{Outside, InHeader, InData}
@@ -78,10 +78,10 @@ pub data Permuted : List (List ℕ) → List (List ℕ) → Type 0 where
   then : {ts us vs : List (List ℕ)} → Permuted ts us → Permuted us vs → Permuted ts vs
 
 -- the head of a data record's text has the id k
-abbrev pub head_has_id : ℕ → Head → Bool
-head_has_id k (Bad why) = false
-head_has_id k (Complex i o) = eqb i k
-head_has_id k (Simple i a z o) = eqb i k
+abbrev pub head_has_id : ℕ → Result Head Reason → Bool
+head_has_id k (Err why) = false
+head_has_id k (Ok (Complex i o)) = eqb i k
+head_has_id k (Ok (Simple i a z o)) = eqb i k
 
 -- the texts of which a test holds, in order
 unfoldable pub those : (List ℕ → Bool) → List (List ℕ) → List (List ℕ)
@@ -115,8 +115,8 @@ pub record Rearranged (ts us : List (List ℕ)) : Type 0 where
 
 -- what a record of the file says, or nothing
 abbrev pub content_found : List ℕ → Option Row → Option Content
-content_found s none = none
-content_found s (some w) = some (content s w)
+content_found s None = None
+content_found s (Some w) = Some (content s w)
 
 -- "each id then yields a record with [..] keyword and argument bytes, or none": of the file s with the table t, by demand 2's lookup, "the
 -- last record of that id, or none"

@@ -1,8 +1,6 @@
 -- Demand 3 holds. Assumes nothing.
-use Rattle.std.specs.Prelude.{ℕ, ◌≡◌, refl, List, map}
-use Rattle.std.proofs.Common.{sym, ◌∙◌, ap}
+use Rattle.std.specs.Prelude.{ℕ, ◌≡◌, List, map}
 use Rattle.error.specs.Refusal.{Told, good, bad}
-use Rattle.statement.specs.Rows.{Row}
 use Rattle.statement.specs.Closed.{Closed}
 use Rattle.scan.specs.Records.{Table}
 use Rattle.scan.specs.File.{scan_of}
@@ -13,11 +11,11 @@ use Rattle.alike.specs.Alike.{SameTold}
 use Rattle.alike.specs.Contexts.{contexts_of, resolve_contexts, resolve_same}
 use Rattle.lookup.specs.Records.{last_of}
 use Rattle.serve.specs.Serve.{units_of}
-use Rattle.order.specs.Order.{CutFile, texts, file_with, of_id, contexts_in, Rearranged, served, SameUnits, SameAnswers, Demand}
+use Rattle.order.specs.Order.{texts, file_with, of_id, Rearranged, SameUnits, Demand}
 use Rattle.order.specs.Shape.{AllSay}
 use Rattle.order.specs.Cuts.{closed_shaped}
 use Rattle.order.specs.Exchange.{permuted_same}
-use Rattle.order.specs.Accepted.{Both, both_accepted}
+use Rattle.order.specs.Accepted.{both_accepted}
 use Rattle.order.specs.SameRecords.{last_text, found_says, same_content}
 use Rattle.order.specs.SameCounts.{same_counts, same_headers}
 use Rattle.order.specs.Contexts.{finds_alike, all_asked, contexts_alike}

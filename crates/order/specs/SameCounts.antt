@@ -1,13 +1,13 @@
 -- The counts, the largest id and what the header records say are the same in any order. Assumes nothing.
-use Rattle.std.specs.Prelude.{ℕ, max, ◌≡◌, refl, List, [], ◌∷◌, ◌++◌, map, length}
+use Rattle.std.specs.Prelude.{ℕ, max, ◌≡◌, refl, List, [], ◌∷◌, ◌++◌, map, length, Result, Ok, Err}
 use Rattle.std.proofs.Common.{sym, ◌∙◌, ap, arith}
-use Rattle.error.specs.Refusal.{Told, good, bad}
+use Rattle.error.specs.Refusal.{Told, good}
+use Rattle.error.specs.declared.Reason.{Reason}
 use Rattle.record.specs.Head.{data_head}
 use Rattle.record.specs.declared.Head.{Head}
-use Rattle.record.specs.declared.Head.TheVariants.{Bad, Complex, Simple}
+use Rattle.record.specs.declared.Head.TheVariants.{Complex, Simple}
 use Rattle.statement.specs.Rows.{Row, HeaderRow}
-use Rattle.statement.specs.Row.{header_of}
-use Rattle.statement.specs.Closed.{ClosedData, ClosedHeader, HeaderContent, header_content}
+use Rattle.statement.specs.Closed.{ClosedData, ClosedHeader, header_content}
 use Rattle.statement.specs.ClosedRight.{row_from, header_row_from, header_content_of, closed_header_row, header_content_lem}
 use Rattle.scan.specs.Records.{Table, largest}
 use Rattle.scan.specs.ScanMemory.{counts_of}
@@ -16,10 +16,10 @@ use Rattle.order.specs.Shape.{RowSays, AllSay, HeaderRowSays, AllHead}
 use Rattle.order.specs.Accepted.{permuted_length, say_length, head_length}
 
 -- the id in a data record's head; 0 in a bad one
-abbrev id_in : Head → ℕ
-id_in (Bad why) = 0
-id_in (Complex i o) = i
-id_in (Simple i a z o) = i
+abbrev id_in : Result Head Reason → ℕ
+id_in (Err why) = 0
+id_in (Ok (Complex i o)) = i
+id_in (Ok (Simple i a z o)) = i
 
 -- the largest id of data records' texts
 abbrev top : List (List ℕ) → ℕ

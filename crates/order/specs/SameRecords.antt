@@ -1,29 +1,27 @@
 -- "each id then yields a record with the same keyword and argument bytes, or none as before". Assumes nothing.
-use Rattle.std.specs.Prelude.{ℕ, ◌≡◌, refl, Bool, true, false, List, [], ◌∷◌, ◌++◌, eqb, length}
-use Rattle.std.proofs.Common.{sym, ◌∙◌, ap, append-nil}
-use Rattle.std.proofs.Math.Option.{Option, none, some}
+use Rattle.std.specs.Prelude.{ℕ, ◌≡◌, refl, Bool, true, false, List, [], ◌∷◌, eqb, length, Option, None, Some}
+use Rattle.std.proofs.Common.{sym, ◌∙◌, ap}
 use Rattle.common.specs.Pick.{pick}
-use Rattle.error.specs.Refusal.{Told, good, bad}
+use Rattle.error.specs.Refusal.{Told, good}
 use Rattle.record.specs.Head.{data_head}
 use Rattle.statement.specs.Rows.{Row}
-use Rattle.statement.specs.Row.{record_of}
 use Rattle.statement.specs.Closed.{ClosedData, Content, content}
-use Rattle.statement.specs.ClosedRight.{row_from, content_of, record_row, record_content, alone, alone_is}
+use Rattle.statement.specs.ClosedRight.{row_from, record_row, record_content, alone, alone_is}
 use Rattle.lookup.specs.Records.{last_of, or_else}
 use Rattle.order.specs.Order.{head_has_id, those, of_id, content_found}
 use Rattle.order.specs.Shape.{RowSays, AllSay}
 
 -- the last of some texts; none where there is none
 abbrev pub last_text : List (List ℕ) → Option (List ℕ)
-last_text [] = none
-last_text (b ∷ bs) = or_else (last_text bs) (some b)
+last_text [] = None
+last_text (b ∷ bs) = or_else (last_text bs) (Some b)
 
 -- the row that is served is that of a text, or there is neither
 abbrev pub FoundSay : List ℕ → Option Row → Option (List ℕ) → Type 0
-FoundSay f none none = Unit {0}
-FoundSay f none (some b) = ⊥
-FoundSay f (some w) none = ⊥
-FoundSay f (some w) (some b) = RowSays f w b
+FoundSay f None None = Unit {0}
+FoundSay f None (Some b) = ⊥
+FoundSay f (Some w) None = ⊥
+FoundSay f (Some w) (Some b) = RowSays f w b
 
 -- a text is read to one row, however it is shown to be closed
 pub says_row : {f : List ℕ} {w : Row} {b : List ℕ} (k : RowSays f w b) (c : ClosedData b) → w ≡ row_from (length k.front) c
@@ -48,18 +46,18 @@ found_says k f [] (b ∷ bs) a = absurd a
 found_says k f (w ∷ ws) [] a = absurd a
 found_says k f (w ∷ ws) (b ∷ bs) (y, a) = rw (says_id k y) (go (eqb w.id k) (last_of k ws) (of_id k bs) (found_says k f ws bs a))
   where
-    first : (x : Option Row) (z : Option (List ℕ)) → FoundSay f x z → FoundSay f (or_else x (some w)) (or_else z (some b))
-    first none none h = y
-    first none (some c) h = absurd h
-    first (some v) none h = absurd h
-    first (some v) (some c) h = h
+    first : (x : Option Row) (z : Option (List ℕ)) → FoundSay f x z → FoundSay f (or_else x (Some w)) (or_else z (Some b))
+    first None None h = y
+    first None (Some c) h = absurd h
+    first (Some v) None h = absurd h
+    first (Some v) (Some c) h = h
 
-    other : (x : Option Row) (z : Option (List ℕ)) → FoundSay f x z → FoundSay f (or_else x none) z
-    other none z h = h
-    other (some v) z h = h
+    other : (x : Option Row) (z : Option (List ℕ)) → FoundSay f x z → FoundSay f (or_else x None) z
+    other None z h = h
+    other (Some v) z h = h
 
     go : (t : Bool) (x : Option Row) (z : List (List ℕ)) → FoundSay f x (last_text z)
-        → FoundSay f (or_else x (pick t (some w) none)) (last_text (pick t (b ∷ z) z))
+        → FoundSay f (or_else x (pick t (Some w) None)) (last_text (pick t (b ∷ z) z))
     go true x z h = first x (last_text z) h
     go false x z h = other x (last_text z) h
 
@@ -69,12 +67,12 @@ says_content {f} {w} {b} y = alone_is y.closed ∙ ap good (sym (ap (λ (g : Lis
 
 -- two rows of one text, or none for none, say the same
 pub same_content : (f g : List ℕ) (x y : Option Row) (z : Option (List ℕ)) → FoundSay f x z → FoundSay g y z → content_found f x ≡ content_found g y
-same_content f g none none none h k = refl
-same_content f g none (some v) none h k = absurd k
-same_content f g (some w) y none h k = absurd h
-same_content f g none y (some b) h k = absurd h
-same_content f g (some w) none (some b) h k = absurd k
-same_content f g (some w) (some v) (some b) h k = ap some (good_one (sym (says_content h) ∙ says_content k))
+same_content f g None None None h k = refl
+same_content f g None (Some v) None h k = absurd k
+same_content f g (Some w) y None h k = absurd h
+same_content f g None y (Some b) h k = absurd h
+same_content f g (Some w) None (Some b) h k = absurd k
+same_content f g (Some w) (Some v) (Some b) h k = ap Some (good_one (sym (says_content h) ∙ says_content k))
   where
     good_one : {p q : Content} → ◌≡◌ {A = Told Content} (good p) (good q) → p ≡ q
     good_one e = cc

@@ -1,24 +1,20 @@
 -- How a closed file is read, whatever closed records stand in the places of its own. Assumes nothing.
 use Rattle.std.specs.Prelude.{ℕ, ◌+◌, ◌≤◌, ◌<◌, ◌≡◌, refl, List, [], ◌∷◌, ◌++◌, length}
-use Rattle.std.proofs.Common.{sym, ◌∙◌, ap, append_assoc, arith, length-append}
-use Rattle.std.proofs.lemmas.List.{append_cancel_left, append_cancel_right}
-use Rattle.common.specs.Compare.{clash}
-use Rattle.error.specs.Refusal.{Told, good, bad}
-use Rattle.lex.specs.Grammar.{Begins}
+use Rattle.std.proofs.Common.{sym, ◌∙◌, ap, append_assoc, arith}
+use Rattle.error.specs.Refusal.{good}
 use Rattle.record.specs.Word.{word_of}
 use Rattle.record.specs.declared.Word.TheVariants.{Other}
-use Rattle.statement.specs.Rows.{Row, HeaderRow, Stmt, reading_ends, statement_refused, section_now, header_statement, data_statement, header_kind, data_kind}
+use Rattle.statement.specs.Rows.{Row, HeaderRow, reading_ends, section_now, header_statement, data_statement, header_kind, data_kind}
 use Rattle.statement.specs.Statement.{statement}
-use Rattle.statement.specs.Closed.{ClosedData, ClosedHeader, ClosedFrom}
+use Rattle.statement.specs.Closed.{ClosedData, ClosedHeader}
 use Rattle.statement.specs.ClosedRight.{row_from, header_row_from, closed_hash}
-use Rattle.statement.specs.ClosedRight.Statements.{StandsAsRecord, stands_as_record_any, stands_as_record_moved, statement_local, statement_header_local, StatementCase, step, data_stands, header_stands, closed_entry, closed_turn}
+use Rattle.statement.specs.ClosedRight.Statements.{StandsAsRecord, stands_as_record_moved, statement_local, statement_header_local}
 use Rattle.statement.specs.declared.Section.{Section}
-use Rattle.statement.specs.declared.Section.TheVariants.{Outside, InHeader, InData}
+use Rattle.statement.specs.declared.Section.TheVariants.{InHeader, InData}
 use Rattle.scan.specs.Records.{Table, table, with_header, with_record}
-use Rattle.statement.specs.Form.{StatementForm}
 use Rattle.scan.specs.Form.{rows_per_kind, Reads}
 use Rattle.statement.specs.FormRight.{statement_is}
-use Rattle.order.specs.Order.{CutFile, no_more_records, next_record, fronted_by, texts, file_with, Cuts}
+use Rattle.order.specs.Order.{CutFile, no_more_records, next_record, fronted_by, texts, file_with}
 
 -- a closed text that stands as a record somewhere, so that it may stand in the place of another
 pub record Fit (b : List ℕ) : Type 0 where
