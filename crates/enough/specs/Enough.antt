@@ -2,17 +2,17 @@
 -- room of just that size is never too short; and some parameter has just so much. Less can suffice: a text that stands in the file as it is
 -- takes no room (of `#1=A('a');` 1 is told), and items count whatever they read as (of `#1=A(('a','b','c'));` 3 are told, which no reader reads).
 -- Assumes nothing.
-use Rattle.std.specs.Prelude.{ℕ, ◌+◌, ◌-◌, ◌≤◌, ◌<◌, min, ◌≡◌, Bool, true, false, ◌&&◌, take, drop}
+use Rattle.std.specs.Prelude.{ℕ, ◌-◌, ◌≤◌, ◌<◌, min, ◌≡◌, Bool, true, false, ◌&&◌, take, drop, Some, None}
 use Rattle.std.proofs.Math.Path.{refl, ap, subst}
 use Rattle.std.proofs.Common.{sym, ◌∙◌, le-leb, length-append, take_all}
-use mathlib.Core.List.{List, [], ◌∷◌, ◌++◌, map}
+use mathlib.Core.List.{List, [], ◌∷◌, map}
 use native.Mathlib.Omega.{arith}
 use Rattle.std.proofs.Math.Dec.{leb}
 use Rattle.std.proofs.Math.ListN.{length}
 use Rattle.std.proofs.lemmas.List.{length-map}
 use Rattle.common.specs.Pick.{pick}
 use Rattle.common.specs.Compare.{clash}
-use Rattle.error.specs.Refusal.{Refusal, refusal, Told, good, bad}
+use Rattle.error.specs.Refusal.{Refusal, refusal, good, bad}
 use Rattle.scalars.specs.Scalars.{is_unset}
 use Rattle.params.specs.Reader.{param_of}
 use Rattle.params.specs.Answer.{Span, span, onward}
@@ -20,9 +20,10 @@ use Rattle.params.specs.Places.{param_past}
 use Rattle.reals.specs.Answer.{Answer}
 use Rattle.strings.specs.Answer.{largest_u64, decoded_of}
 use Rattle.strings.specs.Text.{plain, bytes_of}
-use Rattle.strings.specs.declared.Decoded.TheVariants.{Plain, Written, Short}
+use Rattle.strings.specs.declared.Decoded.TheVariants.{Plain, Written}
 use Rattle.words.specs.Words.{is_string, string_body, decoded_at, string_at}
-use Rattle.words.specs.Answer.{span_bytes, in_file}
+use Rattle.words.specs.Answer.{span_bytes}
+use Rattle.words.specs.declared.Text.TheVariants.{InFile}
 use Rattle.words.specs.Rules.{Quoted}
 use Rattle.words.specs.RulesRight.{quoted_is, quoted_body}
 use Rattle.lists.specs.Items.{list_of}
@@ -137,12 +138,12 @@ module _ (s : List ℕ) (c : Needs) (b : Behind s c) where
             below n j = omega arith
 
         -- a string whose text fits the room is not refused
-        shown : (x y : Bool) → y ≡ true → decoded_at a (pick x Plain (pick y (Written (length (bytes_of (string_body s a)))) Short)) ≡ bad q → q.number ≡ 12
+        shown : (x y : Bool) → y ≡ true → decoded_at a (pick x (Some Plain) (pick y (Some (Written (length (bytes_of (string_body s a))))) None)) ≡ bad q → q.number ≡ 12
         shown true y f j = clash (cc)
         shown false true f j = clash (cc)
         shown false false f j = clash (cc)
 
-        go : (u v : Bool) → is_string (span_bytes s a) ≡ v → pick u (good (in_file (span a.start a.start))) (pick v (decoded_at a (decoded_of (string_body s a) room)) (bad (refusal 12 0 a.start))) ≡ bad q → q.number ≡ 12
+        go : (u v : Bool) → is_string (span_bytes s a) ≡ v → pick u (good (InFile (span a.start a.start))) (pick v (decoded_at a (decoded_of (string_body s a) room)) (bad (refusal 12 0 a.start))) ≡ bad q → q.number ≡ 12
         go true v f j = clash (cc)
         go false true f j = shown (plain (string_body s a)) (leb (length (bytes_of (string_body s a))) room) (fits f) j
         go false false f j = let x : refusal 12 0 a.start ≡ q = cc in sym (ap (λ (z : Refusal). z.number) x)

@@ -6,7 +6,7 @@ use Rattle.common.specs.Walk.{walk}
 use Rattle.lex.specs.Search.{trivia, record_end, closing}
 use Rattle.common.specs.Bytes.{bytes}
 use Rattle.record.specs.Text.{past, number_from, keyword, trail}
-use Rattle.record.specs.Word.{same_bytes, word_of}
+use Rattle.record.specs.Word.{word_of}
 use Rattle.record.specs.Head.{data_head, header_head}
 use Rattle.statement.specs.Row as Row
 use Rattle.statement.specs.Statement.{statement}
@@ -28,5 +28,5 @@ use Rattle.needs.specs.Needs.{most_of, needs, needs_of}
 
 -- no header row and three data rows, the largest id 3, a list of five, the text `it's` and a grid of three rows with four numbers
 pub enough_example : needs_of (bytes "ISO-10303-21;DATA;#1=A((1.,2.,3.),'it''s',4);#2=(B()C(((1,2),(3,4),())));#3=((1,2,3,4,5));") ≡ good (needs 0 3 3 (sizes 4 5 3))
-unfolding walk trivia record_end closing past number_from keyword trail same_bytes word_of data_head header_head Row.record_of Row.header_of statement largest read_from scan_of Part.next_part_of cut_of started param_of encode encode_all lead_of group_two group_four groups_from directive_of piece_of page_after text_from text_on text_of bytes_of from_byte string_rest comment_rest is_string item_end item_text indent item_by items_from is_blank items_by body_of list_by text_len items_len numbers_len rows_len args_from part_sizes_from record_sizes_of most_of needs_of
+unfolding walk trivia record_end closing past number_from keyword trail word_of data_head header_head Row.record_of Row.header_of statement largest read_from scan_of Part.next_part_of cut_of started param_of encode encode_all lead_of group_two group_four groups_from directive_of piece_of page_after text_from text_on text_of bytes_of from_byte string_rest comment_rest is_string item_end item_text indent item_by items_from is_blank items_by body_of list_by text_len items_len numbers_len rows_len args_from part_sizes_from record_sizes_of most_of needs_of
 enough_example = refl
