@@ -1,11 +1,12 @@
 -- "that two allowed answers coincide is proved": what opening a file owes a host is one answer, and one of each lent thing after it; and
 -- the numbers that it leaves say again what goes with the tables.
 -- Assumes nothing.
-use Rattle.std.specs.Prelude.{ℕ, ◌≡◌, List}
+use Rattle.std.specs.Prelude.{ℕ, ◌≡◌, List, Result}
 use Rattle.std.proofs.Common.{sym, ◌∙◌, ap, arith}
+use Rattle.error.specs.declared.Fault.{Fault}
+use Rattle.lookup.specs.declared.Tables.{Tables}
 use Rattle.store.specs.Store.{told_opened_file}
 use Rattle.store.specs.Only.{opened_file_only}
-use Rattle.store.specs.declared.OpenedFile.{OpenedFile}
 use Rattle.host_numbers.specs.Answers.{read_code, read_fault}
 use Rattle.export_tables.specs.Tables.{read_reason, open_tables, Host}
 use Rattle.export_tables.specs.Tables.Host.{short, opened}
@@ -21,13 +22,13 @@ host_only (opened k x a b c d e) (short l h i j o p q r) = absurd (omega arith)
 host_only {s} {heads} {rows} {slots} {tables} {reason} {fault} {ha} {hb} {ra} {rb} {xa} {xb} (opened k x a b c d e) (opened l y h i j o p) =
     let w = opened_file_only s heads rows slots x y ha hb ra rb xa xb a h in
     let v = w.0 in (
-      b ∙ ap (λ (z : OpenedFile). read_code (told_opened_file z)) v ∙ sym i,
+      b ∙ ap (λ (z : Result Tables Fault). read_code (told_opened_file z)) v ∙ sym i,
       w.1,
       w.2,
       w.3,
-      c ∙ ap (λ (z : OpenedFile). open_tables z tables) v ∙ sym j,
-      d ∙ ap (λ (z : OpenedFile). read_reason (told_opened_file z) reason) v ∙ sym o,
-      e ∙ ap (λ (z : OpenedFile). read_fault (told_opened_file z) fault) v ∙ sym p,
+      c ∙ ap (λ (z : Result Tables Fault). open_tables z tables) v ∙ sym j,
+      d ∙ ap (λ (z : Result Tables Fault). read_reason (told_opened_file z) reason) v ∙ sym o,
+      e ∙ ap (λ (z : Result Tables Fault). read_fault (told_opened_file z) fault) v ∙ sym p,
     )
 
 -- "that two allowed answers coincide is proved": of what a file needs, and of each lent thing after it

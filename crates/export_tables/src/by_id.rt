@@ -1,6 +1,5 @@
 // Records by id: the last of an id.
 ghost use Rattle.std.specs.Prelude.{◌≡◌, length};
-ghost use Rattle.std.proofs.Math.Option.{some};
 ghost use Rattle.table.specs.Table.{row_width, six};
 ghost use Rattle.statement.specs.Rows.{mapped};
 ghost use Rattle.kinds.specs.Rules.{rank_of};
@@ -9,16 +8,14 @@ ghost use Rattle.host_numbers.specs.Answers.{Puts, read_code};
 ghost use Rattle.host_numbers.specs.Numbers.{out_code, out_after};
 ghost use Rattle.export_tables.specs.Tables.{host_record};
 
-use lookup::Required;
-
 // The last record with this id: 0, with its six numbers in `row`; or 14.
 pub fn hooflift_require(rows: &[u32], slots: &[u64], tables: &[u64], id: u32, row: &mut [u64]) -> u8
-    ensures value { result ≡ out_code row_width (length row.old) (mapped some (required (host_record rows.now slots.now tables.now id))) }
-    ensures row_after { row.new ≡ out_after row_width six (mapped some (required (host_record rows.now slots.now tables.now id))) row.old }
+    ensures value { result ≡ out_code row_width (length row.old) (mapped Some (required (host_record rows.now slots.now tables.now id))) }
+    ensures row_after { row.new ≡ out_after row_width six (mapped Some (required (host_record rows.now slots.now tables.now id))) row.old }
 {
     match lookup::require(rows, slots, host_numbers::tables_of(tables), id) {
-        Required::Row(w) => host_numbers::put_row(row, w),
-        Required::Refused(f) => error::number(f),
+        Ok(w) => host_numbers::put_row(row, w),
+        Err(f) => f.number(),
     }
 }
 

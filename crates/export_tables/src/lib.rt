@@ -9,7 +9,7 @@ mod needing;
 mod opening;
 
 ghost use Rattle.std.specs.Prelude.{◌≡◌};
-ghost use Rattle.lookup.specs.Lookup.{told_span};
+ghost use Rattle.error.specs.Refusal.{told_result};
 ghost use Rattle.host_numbers.specs.Answers.{Puts, read_code};
 
 pub use by_id::{hooflift_args, hooflift_kind_of, hooflift_require};
@@ -17,22 +17,23 @@ pub use by_row::{
     hooflift_args_of, hooflift_by_kind, hooflift_entity, hooflift_intern, hooflift_keyword,
     hooflift_kind, hooflift_len,
 };
-use lookup::Spanned;
+use error::Fault;
 pub use needing::hooflift_needs;
 pub use opening::hooflift_open;
+use statement::Range;
 
 // Tells where a span stands: 0, or the refusal's number.
-fn put_span(s: Spanned, start: &mut usize, stop: &mut usize) -> u8
-    ensures value { result ≡ read_code (told_span s) }
-    ensures puts { Puts (λ x. x.start) (told_span s) start }
-    ensures puts_2 { Puts (λ x. x.end) (told_span s) stop }
+fn put_span(r: Result<Range, Fault>, start: &mut usize, stop: &mut usize) -> u8
+    ensures value { result ≡ read_code (told_result r) }
+    ensures puts { Puts (λ x. x.start) (told_result r) start }
+    ensures puts_2 { Puts (λ x. x.end) (told_result r) stop }
 {
-    match s {
-        Spanned::Span(r) => {
-            *start = r.start;
-            *stop = r.end;
+    match r {
+        Ok(span) => {
+            *start = span.start;
+            *stop = span.end;
             0
         }
-        Spanned::Refused(f) => error::number(f),
+        Err(f) => f.number(),
     }
 }

@@ -3,7 +3,7 @@ ghost use Rattle.std.specs.Prelude.{◌≡◌, ◌≤◌, length};
 ghost use Rattle.std.proofs.lemmas.List.Edits.{sets};
 ghost use Rattle.export_tables.specs.Needed.{needs_room, need_numbers, Needing};
 
-use needs::{Needed, Needs};
+use needs::Needs;
 
 // How many numbers a host lends at least: more than are told so far.
 const ROOM: usize = 12;
@@ -31,12 +31,12 @@ pub fn hooflift_needs(file: &[u8], needs: &mut [u64], reason: &mut u8, fault: &m
         return 16;
     }
     match needs::count(file) {
-        Needed::Is(n) => {
+        Ok(n) => {
             put_needs(needs, n);
             0
         }
-        Needed::Refused(f) => {
-            *reason = error::reason(f);
+        Err(f) => {
+            *reason = f.reason();
             host_numbers::put_fault(f, fault)
         }
     }

@@ -1,8 +1,6 @@
 // A file opened.
 ghost use Rattle.export_tables.specs.Tables.{Hosts};
 
-use store::OpenedFile;
-
 // Scans a file into lent rows and indexes its ids in the lent slots, one a record: 0, with what goes with the tables in sixteen numbers; or
 // the refusal's number, with its reason and place; or 16 where `tables` has no room for sixteen.
 pub fn hooflift_open(
@@ -20,12 +18,12 @@ pub fn hooflift_open(
         return 16;
     }
     match store::open(file, headers, rows, slots) {
-        OpenedFile::Good(t) => {
+        Ok(t) => {
             host_numbers::put_tables(tables, t);
             0
         }
-        OpenedFile::Refused(f) => {
-            *reason = error::reason(f);
+        Err(f) => {
+            *reason = f.reason();
             host_numbers::put_fault(f, fault)
         }
     }

@@ -1,6 +1,5 @@
 // Records by id: the last of an id.
 ghost use Rattle.std.specs.Prelude.{◌≡◌, length};
-ghost use Rattle.std.proofs.Math.Option.{some};
 ghost use Rattle.table.specs.Table.{row_width, six};
 ghost use Rattle.statement.specs.Rows.{mapped};
 ghost use Rattle.kinds.specs.Rules.{rank_of};
@@ -18,8 +17,8 @@ pub extern "C" fn hooflift_require(
     id: u32,
     row: &mut [u64],
 ) -> u8
-    ensures value { result ≡ out_code row_width (length row.old) (mapped some (required (host_record rows.now slots.now tables.now id))) }
-    ensures row_after { row.new ≡ out_after row_width six (mapped some (required (host_record rows.now slots.now tables.now id))) row.old }
+    ensures value { result ≡ out_code row_width (length row.old) (mapped Some (required (host_record rows.now slots.now tables.now id))) }
+    ensures row_after { row.new ≡ out_after row_width six (mapped Some (required (host_record rows.now slots.now tables.now id))) row.old }
 {
     export_tables::hooflift_require(rows, slots, tables, id, row)
 }

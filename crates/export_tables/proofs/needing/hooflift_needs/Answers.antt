@@ -5,10 +5,10 @@ use Rattle.export_tables.proofs.needing.hooflift_needs.Goals as goal
 pub returns-then-needs-lt-ROOM : goal.returns-then-needs-lt-ROOM
 returns-then-needs-lt-ROOM c = short c.if-needs-lt-ROOM.true refl refl refl refl
 
-pub returns-in-Is : goal.returns-in-Is
-returns-in-Is c = let e = rw c.in-Is.is at c.count.ensures in
+pub returns-in-Ok : goal.returns-in-Ok
+returns-in-Ok c = let e = rw c.in-Ok.is at c.count.ensures in
     told c.if-needs-lt-ROOM.false (rw (← e) refl) (rw (← e) c.put_needs.ensures) (rw (← e) refl) (rw (← e) refl)
 
-pub returns-in-Refused : goal.returns-in-Refused
-returns-in-Refused c = let e = rw c.in-Refused.is at c.count.ensures in
+pub returns-in-Err : goal.returns-in-Err
+returns-in-Err c = let e = rw c.in-Err.is at c.count.ensures in
     told c.if-needs-lt-ROOM.false (rw (← e) c.put_fault.ensures.0) (rw (← e) refl) (rw (← e) c.reason.ensures) (rw (← e) c.put_fault.ensures.1)
