@@ -1,8 +1,7 @@
 -- A file's units for a host in another language, and those of a context that it names by its row.
 -- Assumes nothing.
 -- Definitions to be believed: no law, and nothing computed that no theorem ties (docs/BELIEVE.md).
-use Rattle.std.specs.Prelude.{List, ℕ}
-use Rattle.std.proofs.Math.Option.{Option, none, some}
+use Rattle.std.specs.Prelude.{List, ℕ, Option, None, Some}
 use Rattle.error.specs.Refusal.{Told, good}
 use Rattle.statement.specs.Rows.{Row, mapped}
 use Rattle.params.specs.Answer.{onward}
@@ -15,8 +14,8 @@ use Rattle.host_numbers.specs.Numbers.{tables_by}
 
 -- the units of the context in a row, or what refuses them; none where there is no row. `find` gives the record of an id
 abbrev pub units_in : List ℕ → (ℕ → Told (Option SeenRecord)) → Option Row → Told (Option Units)
-units_in s find none = good none
-units_in s find (some w) = mapped some (onward (context_of s find) (seen_record_of s w))
+units_in s find None = good None
+units_in s find (Some w) = mapped Some (onward (context_of s find) (seen_record_of s w))
 
 -- a file's units, by a host's tables and numbers
 abbrev pub file_units : List ℕ → List ℕ → List ℕ → List ℕ → Told Units

@@ -6,12 +6,12 @@ ghost use Rattle.units.specs.Answer.{told_units};
 ghost use Rattle.host_numbers.specs.Answers.{HostTold, Puts, PutsReal, PutsFound, PutsFoundReal, read_fault, found_code, truth_number};
 ghost use Rattle.export_units.specs.Contexts.{file_units, row_units};
 
-use lookup::Entry;
-use units::Resolved;
+use error::Fault;
+use units::Values;
 
 // Tells a unit answer: 0, or the refusal's number, with its place.
 fn put_units(
-    r: Resolved,
+    r: Result<Values, Fault>,
     mm: &mut f64,
     rad: &mut f64,
     tolerance: &mut f64,
@@ -25,14 +25,14 @@ fn put_units(
     ensures puts { Puts (λ u. truth_number u.resolved) (told_units r) resolved }
 {
     match r {
-        Resolved::Is(v) => {
+        Ok(v) => {
             *mm = v.length;
             *rad = v.angle;
             *tolerance = v.tolerance;
-            *resolved = host_numbers::number_of(v.resolved);
+            *resolved = u8::from(v.resolved);
             0
         }
-        Resolved::Refused(f) => host_numbers::put_fault(f, fault),
+        Err(f) => host_numbers::put_fault(f, fault),
     }
 }
 
@@ -79,11 +79,9 @@ pub fn hooflift_units_of_context(
     ensures puts_found { PutsFound (λ u. truth_number u.resolved) (row_units file.now rows.now slots.now tables.now k) resolved }
 {
     let t = host_numbers::tables_of(tables);
-    match lookup::entity(rows, t, k) {
-        Entry::Row(w) => {
-            let r = units::units_of_context(file, rows, slots, t, w);
-            put_units(r, mm, rad, tolerance, resolved, fault)
-        }
-        Entry::Nothing => 255,
-    }
+    let Some(w) = lookup::entity(rows, t, k) else {
+        return 255;
+    };
+    let r = units::units_of_context(file, rows, slots, t, w);
+    put_units(r, mm, rad, tolerance, resolved, fault)
 }
