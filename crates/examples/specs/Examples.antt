@@ -1,16 +1,15 @@
 -- The starred examples 1 to 9 of document 01, proved of the definitions as one list under one statement.
 -- Assumes nothing.
-use Rattle.std.specs.Prelude.{ℕ, ◌-◌, ◌+◌, ◌≡◌, refl, Bool, true, false, List, [], ◌∷◌, map, eqb, length, take, drop, get_or}
+use Rattle.std.specs.Prelude.{ℕ, ◌-◌, ◌≡◌, refl, List, [], ◌∷◌, map, eqb, length, take, drop, get_or, Option, None, Some}
 use Prim.Native.String.{String}
-use Rattle.std.proofs.Math.Option.{Option, none, some}
 use Rattle.std.specs.Float.Ieee.{size}
 use Rattle.common.specs.Pick.{pick}
-use Rattle.error.specs.Refusal.{Refusal, refusal, Told, good, bad}
+use Rattle.error.specs.Refusal.{refusal, Told, good, bad}
 use Rattle.common.specs.Walk.{walk}
 use Rattle.lex.specs.Search.{trivia, record_end, closing}
 use Rattle.common.specs.Bytes.{bytes}
 use Rattle.record.specs.Text.{past, number_from, keyword, trail}
-use Rattle.record.specs.Word.{same_bytes, word_of}
+use Rattle.record.specs.Word.{word_of}
 use Rattle.record.specs.Head.{data_head, header_head}
 use Rattle.statement.specs.Rows.{Row, mapped}
 use Rattle.statement.specs.Row.{record_of, header_of}
@@ -62,8 +61,8 @@ listing_of s t = listing (length t.records) (largest t.records) (map (line_of s)
 
 -- the line of the record that is served, where the lookup gives its number
 abbrev pub line_at : List ListedLine → Option ℕ → Option ListedLine
-line_at ls none = none
-line_at ls (some r) = some (get_or ls r (listed_line 0 "" 0 0))
+line_at ls None = None
+line_at ls (Some r) = Some (get_or ls r (listed_line 0 "" 0 0))
 
 -- "Lookup of an id answers like a map written to in file order": the line of the record that is served for k
 abbrev pub served_line : List ℕ → ℕ → Table → Option ListedLine
@@ -87,7 +86,7 @@ examples =
     ∷ file "ISO-10303-21;DATA;;" (bad (refusal 7 2 18))
     ∷ file "ISO-10303-21;DATA;#4294967295=A();" (good (listing 1 4294967295 (listed_line 4294967295 "A" 32 32 ∷ [])))
     ∷ file "ISO-10303-21;DATA;#4294967296=A();" (bad (refusal 7 3 18))
-    ∷ lookup "ISO-10303-21;DATA;#1=A(1);#1=B(2);" 1 (good (some (listed_line 1 "B" 31 32)))
+    ∷ lookup "ISO-10303-21;DATA;#1=A(1);#1=B(2);" 1 (good (Some (listed_line 1 "B" 31 32)))
     ∷ string "\\X2\\00C40042\\X0\\" (0xc3 ∷ 0x84 ∷ 0x42 ∷ [])
     ∷ string "\\S\\D" (0xc3 ∷ 0x84 ∷ [])
     ∷ string "\\X\\C4" (0xc3 ∷ 0x84 ∷ [])
@@ -108,5 +107,5 @@ Holds (real s a ∷ es) = (real_of (bytes s) ≡ a) × Holds es
 
 -- "Starred examples are proved of the definitions as one list under one statement"
 pub examples_hold : Holds examples
-unfolding walk trivia record_end closing past number_from keyword trail same_bytes word_of data_head header_head record_of header_of statement largest read_from scan_of real_of parse_of near near_units size encode encode_all lead_of group_two group_four groups_from directive_of piece_of page_after text_from text_on text_of bytes_of latin1 pages page_entry written_map
+unfolding walk trivia record_end closing past number_from keyword trail word_of data_head header_head record_of header_of statement largest read_from scan_of real_of parse_of near near_units size encode encode_all lead_of group_two group_four groups_from directive_of piece_of page_after text_from text_on text_of bytes_of latin1 pages page_entry written_map
 examples_hold = (refl, (refl, (refl, (refl, (refl, (refl, (refl, (refl, (refl, (refl, (refl, (refl, (refl, (refl, (refl, tt)))))))))))))))

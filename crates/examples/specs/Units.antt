@@ -1,7 +1,7 @@
 -- Units by example: one small file for each rule of document 01's 'Units' that a reader can get wrong, and the answer of the definitions,
 -- as one list under one statement. 4607182418800017408 is 1.0, 4652007308841189376 is 1000.0, 4602678819172646912 is 0.5 and
 -- 4562254508917369340 is 1e-3. Assumes nothing.
-use Rattle.std.specs.Prelude.{ℕ, ◌≡◌, refl, true, false, List, [], ◌∷◌, map}
+use Rattle.std.specs.Prelude.{◌≡◌, refl, true, false, List, [], ◌∷◌, map}
 use Prim.Native.String.{String}
 use Rattle.error.specs.Refusal.{refusal, Told, good, bad}
 use Rattle.common.specs.Bytes.{bytes}
