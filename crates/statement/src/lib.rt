@@ -52,6 +52,7 @@ pub struct RecordSpan {
     pub id: u32,
     pub keyword: Range,
     pub args: Range,
+    // Kept: a number, as the lent tables and C hold it: a row that is not the reader's own may have any, and is told as it stands (`told_row`).
     pub complex: u32,
 }
 
