@@ -128,6 +128,8 @@ fn lowered_in(neg: bool, a: &mut [u32], s: usize, k: usize, more: bool) -> f64
 }
 
 // Multiplies the first `used` digits by `by` and adds `add`; what no longer fits becomes the next digit.
+// Kept: `a` and `used` go together here and in `raise`, `raised_in` and `put_held`. A struct of both is no plainer: `put` and `Digits::lowered_whole` push once,
+// from a count of their own into a room that they go on with, so it would be built for one call, hold the room as a `&mut`, and give the count back.
 fn push(a: &mut [u32], used: usize, by: u32, add: u32)
     requires { used < length a.old }
     ensures { worth (take (used + 1) a.new) ≡ worth (take used a.old) * by + add }
