@@ -1,9 +1,9 @@
--- What the answers of the public functions say: of a search, of a byte that is sought, of a quote and of a string's end. Assumes nothing.
+-- What the answers of the public functions say: of a search, of a byte that is sought, of a quote, of a string's end and of a comment's. Assumes nothing.
 -- Definitions to be believed: no law, and nothing computed that no theorem ties (docs/BELIEVE.md).
 use Rattle.std.specs.Prelude.{ℕ, ◌≤◌, ◌<◌, List, [], ◌∷◌, ◌≡◌, get_or, length, drop, Option, Some, None}
 use Rattle.error.specs.Refusal.{refusal, Told, good, bad}
 use Rattle.lex.specs.Byte.{place}
-use Rattle.lex.specs.Grammar.{Begins, Quotation, OpenText}
+use Rattle.lex.specs.Grammar.{Begins, Quotation, OpenText, Comment, OpenRemark}
 use Rattle.lex.specs.declared.Quote.{Quote}
 use Rattle.lex.specs.declared.Quote.TheVariants.{Doubled, Single, Last}
 
@@ -42,3 +42,8 @@ QuoteIs xs Last = xs ≡ []
 abbrev pub TextEnds : List ℕ → ℕ → Option ℕ → Type 0
 TextEnds s i (Some p) = (i < p) × (p ≤ length s) × Quotation (39 ∷ drop i s) (drop p s)
 TextEnds s i None = OpenText (39 ∷ drop i s)
+
+-- "A comment runs from `/*` to the first `*/` that begins after it": the place after the comment whose inside begins at i, or that it never ends
+abbrev pub CommentEnds : List ℕ → ℕ → Option ℕ → Type 0
+CommentEnds s i (Some p) = (i < p) × (p ≤ length s) × Comment (47 ∷ 42 ∷ drop i s) (drop p s)
+CommentEnds s i None = OpenRemark (47 ∷ 42 ∷ drop i s)

@@ -1,5 +1,4 @@
--- Blocks of 64 bytes that are passed one after another, each with what it makes of a state. No contract of a public function cites these. Assumes
--- nothing.
+-- Blocks of 64 bytes that are passed one after another, each with what it makes of a state. Assumes nothing.
 use Rattle.std.specs.Prelude.{ℕ, ◌+◌}
 
 -- from i on, with the state s, blocks are passed up to r, where the state is t: each is one that P allows

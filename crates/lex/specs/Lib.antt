@@ -11,6 +11,7 @@ pub mod Local
 pub mod Right
 pub mod Inside
 pub mod Quote
+pub mod Remark
 pub mod PassedAtOnce
 pub mod TriviaPassed
 pub mod At

@@ -1,7 +1,7 @@
 -- What the code passes at one go on its way to a record's `;` and to a closing `)`: a string, a comment, a byte outside both, and blocks of
 -- bytes in which nothing is to be looked at one by one. All is said of `plainly`, the search outside strings and comments, for which it does not
 -- matter where the last byte outside stood. No contract of a public function cites these. Assumes nothing.
-use Rattle.std.specs.Prelude.{ℕ, suc, ◌+◌, ◌-◌, ◌≤◌, ◌<◌, min, ◌≡◌, refl, Bool, true, false, ◌||◌, List, ◌∷◌, ◌++◌, eqb, length, drop, get_or, Result, Ok, Err}
+use Rattle.std.specs.Prelude.{ℕ, suc, ◌+◌, ◌-◌, ◌≤◌, ◌<◌, ◌≡◌, refl, Bool, true, false, ◌||◌, List, ◌∷◌, ◌++◌, eqb, length, drop, get_or, Result, Ok, Err}
 use Rattle.std.proofs.Common.{sym, ◌∙◌, ap, arith, eq-eqb, ne_eqb, eqb-true}
 use Rattle.std.proofs.Math.Decide.{dec_le}
 use Rattle.std.proofs.lemmas.Bool.{eqb-false}
@@ -10,28 +10,23 @@ use Rattle.common.specs.Lists.{split, drop_end}
 use Rattle.common.specs.Compare.{clash}
 use Rattle.error.specs.Refusal.{bad, refusal, told}
 use Rattle.lex.specs.Place.{place_drop}
-use Rattle.common.specs.Walk.{on, walk_ends, walk_goes}
+use Rattle.common.specs.Walk.{on, walk_goes}
 use Rattle.common.specs.Tests.{neither}
 use Rattle.lex.specs.Lexer.{fresh}
 use Rattle.lex.specs.Search.{Look, look, seen, seek_turn, missed, semicolon, paren}
-use Rattle.lex.specs.Answer.{placed, Stopped}
-use Rattle.lex.specs.ByteSearch.{seek_leaps, leapt_remark}
-use Rattle.lex.specs.Grammar.{Begins, Quotation, OpenText}
+use Rattle.lex.specs.Answer.{placed}
+use Rattle.lex.specs.Grammar.{Begins, Quotation, OpenText, Comment, OpenRemark}
 use Rattle.lex.specs.Local.{seek}
-use Rattle.lex.specs.Right.Steps.{plainly, unstarred, outside_forgotten, unslashed, text_shut, text_open, seek_deaf}
-use Rattle.lex.specs.Right.Tokens.{open_text}
+use Rattle.lex.specs.Right.Steps.{plainly, outside_forgotten, unslashed, remark_shut, remark_open, text_shut, text_open, seek_deaf}
+use Rattle.lex.specs.Right.Tokens.{open_text, open_remark}
 use Rattle.error.specs.declared.Fault.{Fault}
 use Rattle.lex.specs.declared.Mode.{Mode}
-use Rattle.lex.specs.declared.Mode.TheVariants.{Plain, Slash, Text, Remark, Starred}
+use Rattle.lex.specs.declared.Mode.TheVariants.{Plain, Slash, Text, Remark}
 
 -- whether the byte b stands at i
 pub record IsAt (b : ℕ) (s : List ℕ) (i : ℕ) (r : Bool) : Type 0 where
   pub here : r ≡ true → (i < length s) × (get_or s i 0 ≡ b)
   pub away : r ≡ false → i < length s → get_or s i 0 ≡ b → ⊥
-
--- a search in mode m, in a string or a comment that began at q, goes on from j as from i
-abbrev pub StaysInside : List ℕ → Mode → ℕ → ℕ → ℕ → Type 0
-StaysInside s m q i j = (f : ℕ → ℕ → Look) (n : ℕ) (w : List ℕ) (d : ℕ) → seek f (missed n w) m d (drop q s) (drop i s) ≡ seek f (missed n w) m d (drop q s) (drop j s)
 
 -- a search in mode m, in a string or a comment that began at q, leaves it at p, read from i on
 abbrev pub LeavesAt : List ℕ → Mode → ℕ → ℕ → ℕ → Type 0
@@ -77,7 +72,7 @@ unbegun s j c h (r, e) = go (dec_le (length s) j)
     go (yes l) = clash (cc (drop_end s j l))
     go (no l) = let k : j < length s = omega arith in h k (cc (split s j k))
 
--- A string that began at q, and one piece of a comment that did.
+-- A string that began at q, and a comment that did.
 module _ (s : List ℕ) (q i : ℕ) where
   -- a search in a string leaves it where the string ends
   pub text_left : (p : ℕ) → Quotation (39 ∷ drop i s) (drop p s) → LeavesAt s Text q i p
@@ -93,42 +88,19 @@ module _ (s : List ℕ) (q i : ℕ) where
       let g : drop i s ≡ u = cc in
       rw (g, text_open f n w d (drop q s) j, place_drop s q k) refl
 
-  -- a search in a comment goes on from the first star as from i
-  pub remark_found : (r : ℕ) → i ≤ length s → Stopped 42 s (min i (length s)) (length s) r → StaysInside s Remark q i r
-  remark_found r h t f n w d = seek_leaps f (missed n w) s Remark d (drop q s) i r (leapt_remark s i r h t)
+  -- a search in a comment leaves it where the comment ends
+  pub remark_left : (p : ℕ) → Comment (47 ∷ 42 ∷ drop i s) (drop p s) → LeavesAt s Remark q i p
+  remark_left p t f n w d =
+      let e : drop i s ≡ t.body ++ (42 ∷ 47 ∷ drop p s) = cc t.shape in
+      rw e (remark_shut (seek_turn f) (missed n w) (λ m. seen m d (drop q s)) (seek_deaf f n w d (drop q s)) t.body (drop p s) t.first ∙ outside_forgotten f n w d (drop q s) (drop p s) (drop p s))
 
-  -- a search in a comment goes on after a star as one that has seen it
-  remark_star : i < length s → get_or s i 0 ≡ 42 → (f : ℕ → ℕ → Look) (n : ℕ) (w : List ℕ) (d : ℕ)
-      → seek f (missed n w) Remark d (drop q s) (drop i s) ≡ seek f (missed n w) Starred d (drop q s) (drop (i + 1) s)
-  remark_star h a f n w d = walk_goes (seek_turn f) (missed n w) (seen Remark d (drop q s)) (seen Starred d (drop q s)) s i h (rw (eq-eqb (get_or s i 0) 42 a) refl)
-
-  -- a search in a comment goes on after a star that no slash follows
-  pub remark_byte : i < length s → get_or s i 0 ≡ 42 → (i + 1 < length s → get_or s (i + 1) 0 ≡ 47 → ⊥) → StaysInside s Remark q i (i + 1)
-  remark_byte h a b f n w d =
-      remark_star h a f n w d
-      ∙ unstarred (seek_turn f) (missed n w) (λ m. seen m d (drop q s)) (seek_deaf f n w d (drop q s)) (drop (i + 1) s) (unbegun s (i + 1) 47 b)
-
-  -- a search in a comment leaves it after a star and a slash
-  pub remark_last : (j : ℕ) → j ≡ i + 2 → i + 1 < length s → get_or s i 0 ≡ 42 → get_or s (i + 1) 0 ≡ 47 → LeavesAt s Remark q i j
-  remark_last j g h a b f n w d =
-      let e : i + 1 + 1 ≡ j = omega arith in
-      remark_star (omega arith) a f n w d
-      ∙ walk_goes (seek_turn f) (missed n w) (seen Starred d (drop q s)) (seen Plain d (drop q s)) s (i + 1) h (rw (eq-eqb (get_or s (i + 1) 0) 47 b) refl)
-      ∙ outside_forgotten f n w d (drop q s) (drop (i + 1 + 1) s) (drop (i + 1 + 1) s)
-      ∙ ap (λ (k : ℕ). plainly f n w d (drop k s)) e
-
-  -- where the bytes end in a comment, a search is refused with 3 at the comment's slash
-  pub remark_none : length s ≤ i → q ≤ length s → (f : ℕ → ℕ → Look) (n : ℕ) (w : List ℕ) (d : ℕ)
+  -- a search in a comment that never ends is refused with 3 at the comment's slash
+  pub remark_stays : q ≤ length s → OpenRemark (47 ∷ 42 ∷ drop i s) → (f : ℕ → ℕ → Look) (n : ℕ) (w : List ℕ) (d : ℕ)
       → placed s (seek f (missed n w) Remark d (drop q s) (drop i s)) ≡ bad (refusal 3 0 q)
-  remark_none h k f n w d = rw (walk_ends (seek_turn f) (missed n w) (seen Remark d (drop q s)) s i h, place_drop s q k) refl
-
--- a search in a string or a comment goes on over one piece and over the next
-pub stays_inside_on : (s : List ℕ) (m : Mode) (q i j k : ℕ) → StaysInside s m q i j → StaysInside s m q j k → StaysInside s m q i k
-stays_inside_on s m q i j k a b f n w d = a f n w d ∙ b f n w d
-
--- a search in a string or a comment goes on over a piece, and leaves it after the next
-pub leaves_at_on : (s : List ℕ) (m : Mode) (q i j p : ℕ) → StaysInside s m q i j → LeavesAt s m q j p → LeavesAt s m q i p
-leaves_at_on s m q i j p a b f n w d = a f n w d ∙ b f n w d
+  remark_stays k t f n w d =
+      let (u, e, j) = open_remark t in
+      let g : drop i s ≡ u = cc in
+      rw (g, remark_open (seek_turn f) (missed n w) (λ m. seen m d (drop q s)) (seek_deaf f n w d (drop q s)) u j, place_drop s q k) refl
 
 -- What stands at i outside strings and comments.
 module _ (s : List ℕ) (i : ℕ) (h : i < length s) where

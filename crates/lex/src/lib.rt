@@ -1,15 +1,15 @@
 // The lexer under the scan: past trivia, to a string's end, to a record's `;`, to the `)` that closes a `(`.
 //
 // As the first half of the Rust's scan.rs. All searches pass a comment at one go; those for a `;` and a `)` a string too, and plain bytes by
-// blocks where there are many. Where a string ends is sought by `text_end`, for the argument reader too.
-// No public function has a `requires`: a start past the file's end counts as the end.
+// blocks where there are many. Where a string and a comment end is sought by `text_end` and `comment_end`, for the argument reader too.
+// No search has a `requires`: a start past the file's end counts as the end. `pass_blocks`, the walk below three of them, has one.
 #![tactic(auto)]
 
 ghost use Rattle.std.specs.Prelude.{◌≡◌, ℕ, ◌+◌, ◌≤◌, ◌<◌, ◌^◌, min, true, false, ◌||◌, length, drop, IfSome};
 ghost use Rattle.error.specs.Refusal.{told_result};
 ghost use Rattle.lex.specs.Byte.{white};
 ghost use Rattle.lex.specs.Blocks.{BlocksPassed};
-ghost use Rattle.lex.specs.Answer.{Lacks, Stopped, placed, QuoteIs, TextEnds};
+ghost use Rattle.lex.specs.Answer.{Lacks, Stopped, placed, QuoteIs, TextEnds, CommentEnds};
 ghost use Rattle.lex.specs.PassedAtOnce.{IsAt, LeavesOrRefused, OutsideAgain, Quiet, BlockCounted};
 ghost use Rattle.lex.specs.Search.{record_end, closing, trivia, paren, look_of};
 
@@ -48,7 +48,7 @@ fn block_has(s: &[u8], at: usize, b: u8) -> bool
 }
 
 // Past the blocks of 64 bytes, from `from` on, that the step lets pass, with what it makes of a state; it is told where a block begins.
-fn pass_blocks<T: Copy, F: Fn(usize, T) -> Option<T>>(
+pub fn pass_blocks<T: Copy, F: Fn(usize, T) -> Option<T>>(
     s: &[u8],
     from: usize,
     first: T,
@@ -175,23 +175,30 @@ fn past_text(s: &[u8], q: usize) -> Result<usize, Fault>
     text_end(s, q + 1).ok_or(Fault::OpenString(q))
 }
 
-// Past the comment whose `/` stands at q and its `*` after it.
+// Where the comment ends whose `/*` stands before `from`: after the first `*/`. What bytes stand before `from` is not looked at.
 // Kept: the loop leaps from star to star, which no `for` counts.
+pub fn comment_end(s: &[u8], from: usize) -> Option<usize>
+    ensures { CommentEnds s.now from result }
+{
+    let mut i = from.min(s.len());
+    loop {
+        let e = find(s, i, b'*');
+        if s.len() <= e {
+            return None;
+        }
+        if is_at(s, e + 1, b'/') {
+            return Some(e + 2);
+        }
+        i = e + 1;
+    }
+}
+
+// Past the comment whose `/` stands at q and its `*` after it.
 fn past_remark(s: &[u8], q: usize) -> Result<usize, Fault>
     requires { q + 2 ≤ length s.now }
     ensures { LeavesOrRefused s.now Mode.Remark q (q + 2) result }
 {
-    let mut i = q + 2;
-    loop {
-        let e = find(s, i, b'*');
-        if s.len() <= e {
-            return Err(Fault::OpenComment(q));
-        }
-        if is_at(s, e + 1, b'/') {
-            return Ok(e + 2);
-        }
-        i = e + 1;
-    }
+    comment_end(s, q + 2).ok_or(Fault::OpenComment(q))
 }
 
 // Past what stands at i outside strings and comments: a string, a comment, or a byte.

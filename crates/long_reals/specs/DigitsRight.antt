@@ -148,11 +148,19 @@ first_told t from i f = go f.found
         let g = length-drop i t in
         lt-ltb i (length t) (omega arith) ∙ sym (lt-ltb 0 (number_in 0 (drop from t)) p)
 
+-- digits from a place on that make the text's number make one below 10 ^ n, n being how many they are
+pub made_lt : (t : List ℕ) (i n : ℕ) → number_in 0 (drop i t) ≡ number_in 0 t → n ≡ digits_in (drop i t) → number_in 0 t < 10 ^ n
+made_lt t i n s e = subst (λ (k : ℕ). number_in 0 t < 10 ^ k) (sym e) (subst (λ (x : ℕ). x < 10 ^ digits_in (drop i t)) s (number_lt (drop i t)))
+
+-- digits from a place on that make the text's number, which is 10 ^ (n - 1) or more, do not make 0
+pub made_pos : (t : List ℕ) (i n : ℕ) → number_in 0 (drop i t) ≡ number_in 0 t → 10 ^ n ≤ 10 * number_in 0 t → 0 < number_in 0 (drop i t)
+made_pos t i n s l = let p : 1 ≤ 10 ^ n = one-le-pow n 10 (omega arith) in omega arith
+
 -- ---- the digits from the first on that is not `0`
 module _ (t : List ℕ) (i n : ℕ) (f : FirstAt t 0 i) (e : n ≡ digits_in (drop i t)) where
   -- the n digits from the first that is not `0` on make the text's number, which is below 10 ^ n
   pub read_lt : number_in 0 t < 10 ^ n
-  read_lt = subst (λ (k : ℕ). number_in 0 t < 10 ^ k) (sym e) (subst (λ (x : ℕ). x < 10 ^ digits_in (drop i t)) f.same (number_lt (drop i t)))
+  read_lt = made_lt t i n f.same e
 
   -- where there is a digit from place i on, the text leads with one that is not `0` there
   first_leading : 0 < n → LeadsNonzero (drop i t)
@@ -168,4 +176,4 @@ module _ (t : List ℕ) (i n : ℕ) (f : FirstAt t 0 i) (e : n ≡ digits_in (dr
 
   -- where digits follow from the first that is not `0` on, their number is not 0
   pub read_pos : 0 < n → 0 < number_in 0 (drop i t)
-  read_pos h = leads_pos (drop i t) (first_leading h)
+  read_pos h = made_pos t i n f.same (read_le h)

@@ -128,6 +128,8 @@ fn lowered_in(neg: bool, a: &mut [u32], s: usize, k: usize, more: bool) -> f64
 }
 
 // Multiplies the first `used` digits by `by` and adds `add`; what no longer fits becomes the next digit.
+// Kept: `a` and `used` go together here and in `raise`, `raised_in` and `put_held`. A struct of both is no plainer: `put` and `Digits::lowered_whole` push once,
+// from a count of their own into a room that they go on with, so it would be built for one call, hold the room as a `&mut`, and give the count back.
 fn push(a: &mut [u32], used: usize, by: u32, add: u32)
     requires { used < length a.old }
     ensures { worth (take (used + 1) a.new) ≡ worth (take used a.old) * by + add }
@@ -293,71 +295,85 @@ fn read_digits(t: &[u8], from: usize, count: usize, a: &mut [u32]) -> Filled
     put_held(a, used, weight, held, t.len())
 }
 
-// n digits from i on, divided by 10^k, all of them of weight. The room is all 0.
-fn lowered_whole(neg: bool, t: &[u8], i: usize, n: usize, k: usize, a: &mut [u32]) -> f64
-    requires { (i ≤ length t.now) × (n ≡ digits_in (drop i t.now)) × (n ≤ k + 309) × (k ≤ 1075) × (length a.old ≡ 192) × (worth a.old ≡ 0) }
-    ensures { to_bits binary64 result ≡ signed neg (near (number_in 0 (drop i t.now)) (10 ^ k)) }
-{
-    let s = 1075 - k;
-    let c = s / 32;
-    let r = read_digits(t, i, n, &mut a[c..]);
-    let used = c + r.used;
-    push(a, used, 1u32 << (s % 32), 0);
-    lowered_in(neg, &mut a[..used + 1], s, k, false)
+// The digits of a text from the first on that is not `0`: its place, how many there are, and the sign of their number.
+#[derive(Clone, Copy)]
+struct Digits<'a> {
+    neg: bool,
+    text: &'a [u8],
+    first: usize,
+    many: usize,
+    ghost within: { first ≤ length text.now },
+    ghost counted: { many ≡ digits_in (drop first text.now) },
+    ghost same: { number_in 0 (drop first text.now) ≡ number_in 0 text.now },
+    ghost leading: { 10 ^ many ≤ 10 * number_in 0 text.now },
+    ghost some: { 0 < many },
 }
 
-// n digits from i on, divided by 10^k, of which those below 10^-1075 are asked only whether all are `0`.
-fn lowered_cut(neg: bool, t: &[u8], i: usize, n: usize, k: usize, a: &mut [u32]) -> f64
-    requires { (i ≤ length t.now) × (n ≡ digits_in (drop i t.now)) × (n ≤ k + 309) × (k ≤ n + 1075) × (1075 < k) × (length a.old ≡ 192) }
-    ensures { to_bits binary64 result ≡ signed neg (near (number_in 0 (drop i t.now)) (10 ^ k)) }
-{
-    let r = read_digits(t, i, n - (k - 1075), a);
-    let more = first_digit(t, r.next) < t.len();
-    lowered_in(neg, &mut a[..r.used], 0, 1075, more)
-}
+impl<'a> Digits<'a> {
+    // Divided by 10^k, all of them of weight. The room is all 0.
+    fn lowered_whole(self, k: usize, a: &mut [u32]) -> f64
+        requires { (self.many ≤ k + 309) × (k ≤ 1075) × (length a.old ≡ 192) × (worth a.old ≡ 0) }
+        ensures { to_bits binary64 result ≡ signed self.entry.neg (near (number_in 0 self.entry.text.now) (10 ^ k)) }
+    {
+        let s = 1075 - k;
+        let c = s / 32;
+        let r = read_digits(self.text, self.first, self.many, &mut a[c..]);
+        let used = c + r.used;
+        push(a, used, 1u32 << (s % 32), 0);
+        lowered_in(self.neg, &mut a[..used + 1], s, k, false)
+    }
 
-// n digits from i on, the first not `0`, divided by 10^k.
-fn lowered_text(neg: bool, t: &[u8], i: usize, n: usize, k: usize) -> f64
-    requires { (FirstAt t.now 0 i) × (n ≡ digits_in (drop i t.now)) × (0 < n) }
-    ensures { to_bits binary64 result ≡ signed neg (near (number_in 0 t.now) (10 ^ k)) }
-{
-    // Below 10^-324, and from 10^309 on.
-    if n + 324 <= k {
-        return f64_rounding::with_sign(neg, 0);
+    // Divided by 10^k; those below 10^-1075 are asked only whether all are `0`.
+    fn lowered_cut(self, k: usize, a: &mut [u32]) -> f64
+        requires { (self.many ≤ k + 309) × (k ≤ self.many + 1075) × (1075 < k) × (length a.old ≡ 192) }
+        ensures { to_bits binary64 result ≡ signed self.entry.neg (near (number_in 0 self.entry.text.now) (10 ^ k)) }
+    {
+        let r = read_digits(self.text, self.first, self.many - (k - 1075), a);
+        let more = first_digit(self.text, r.next) < self.text.len();
+        lowered_in(self.neg, &mut a[..r.used], 0, 1075, more)
     }
-    if k + 309 < n {
-        return endless(neg);
-    }
-    let mut a = [0u32; 192];
-    if k <= 1075 {
-        return lowered_whole(neg, t, i, n, k, &mut a);
-    }
-    lowered_cut(neg, t, i, n, k, &mut a)
-}
 
-// n digits from i on, the first not `0`, times 10^k. The room is all 0.
-fn raised_whole(neg: bool, t: &[u8], i: usize, n: usize, k: usize, a: &mut [u32]) -> f64
-    requires { (i ≤ length t.now) × (n ≡ digits_in (drop i t.now)) × (0 < number_in 0 (drop i t.now)) × (n + k ≤ 309) × (k ≤ 308) × (length a.old ≡ 64) × (worth a.old ≡ 0) }
-    ensures { to_bits binary64 result ≡ signed neg (near (number_in 0 (drop i t.now) * 10 ^ k) 1) }
-{
-    let r = read_digits(t, i, n, &mut a[2..]);
-    raised_in(neg, a, 2 + r.used, k)
-}
+    // Divided by 10^k.
+    fn lowered(self, k: usize) -> f64
+        ensures { to_bits binary64 result ≡ signed self.entry.neg (near (number_in 0 self.entry.text.now) (10 ^ k)) }
+    {
+        // Below 10^-324, and from 10^309 on.
+        if self.many + 324 <= k {
+            return f64_rounding::with_sign(self.neg, 0);
+        }
+        if k + 309 < self.many {
+            return endless(self.neg);
+        }
+        let mut a = [0u32; 192];
+        if k <= 1075 {
+            return self.lowered_whole(k, &mut a);
+        }
+        self.lowered_cut(k, &mut a)
+    }
 
-// n digits from i on, the first not `0`, times 10^k.
-fn raised_text(neg: bool, t: &[u8], i: usize, n: usize, k: usize) -> f64
-    requires { (FirstAt t.now 0 i) × (n ≡ digits_in (drop i t.now)) × (0 < n) }
-    ensures { to_bits binary64 result ≡ signed neg (near (number_in 0 t.now * 10 ^ k) 1) }
-{
-    // From 10^309 on.
-    if (309 < n) | (308 < k) {
-        return endless(neg);
+    // Times 10^k. The room is all 0.
+    fn raised_whole(self, k: usize, a: &mut [u32]) -> f64
+        requires { (self.many + k ≤ 309) × (k ≤ 308) × (length a.old ≡ 64) × (worth a.old ≡ 0) }
+        ensures { to_bits binary64 result ≡ signed self.entry.neg (near (number_in 0 self.entry.text.now * 10 ^ k) 1) }
+    {
+        let r = read_digits(self.text, self.first, self.many, &mut a[2..]);
+        raised_in(self.neg, a, 2 + r.used, k)
     }
-    if 309 < n + k {
-        return endless(neg);
+
+    // Times 10^k.
+    fn raised(self, k: usize) -> f64
+        ensures { to_bits binary64 result ≡ signed self.entry.neg (near (number_in 0 self.entry.text.now * 10 ^ k) 1) }
+    {
+        // From 10^309 on.
+        if (309 < self.many) | (308 < k) {
+            return endless(self.neg);
+        }
+        if 309 < self.many + k {
+            return endless(self.neg);
+        }
+        let mut a = [0u32; 64];
+        self.raised_whole(k, &mut a)
     }
-    let mut a = [0u32; 64];
-    raised_whole(neg, t, i, n, k, &mut a)
 }
 
 // The f64 nearest to the number of a text's digits, divided by 10^k where `down`, else times 10^k, with its sign, which zero has too.
@@ -365,13 +381,19 @@ fn raised_text(neg: bool, t: &[u8], i: usize, n: usize, k: usize) -> f64
 pub fn decimal(neg: bool, t: &[u8], down: bool, k: usize) -> f64
     ensures { to_bits binary64 result ≡ signed neg (near_by down (number_in 0 t.now) k) }
 {
-    let i = first_digit(t, 0);
-    let n = count_digits(t, i);
-    if n == 0 {
+    let first = first_digit(t, 0);
+    let many = count_digits(t, first);
+    if many == 0 {
         return f64_rounding::with_sign(neg, 0);
     }
+    let digits = Digits {
+        neg,
+        text: t,
+        first,
+        many,
+    };
     if down {
-        return lowered_text(neg, t, i, n, k);
+        return digits.lowered(k);
     }
-    raised_text(neg, t, i, n, k)
+    digits.raised(k)
 }

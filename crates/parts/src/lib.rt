@@ -84,6 +84,7 @@ fn find_part(s: &[u8], start: usize, end: usize, kind: Kind) -> Result<Option<He
     Ok(got)
 }
 
+// Kept: `complex` is the number of a lent table's row and of C, which may be any.
 // The first part of a kind of a record whose arguments run from start up to end and whose mark is `complex`; a simple record has
 // no parts. 9 where the arguments lie outside the file or run backwards.
 pub fn complex_part(

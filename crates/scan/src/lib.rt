@@ -88,6 +88,7 @@ fn is_marked(s: &[u8]) -> bool
 }
 
 // Puts a header row as row k, where the pass writes, and answers the next row's number.
+// Kept: `write` is the pass's task, which is one number more in a register than a closure would be; both passes are one loop, so that they cannot part.
 fn put_header(out: &mut [u32], k: usize, span: HeaderSpan, write: bool) -> usize
     requires { (k < headers_fit (length out.old)) × HeaderFits 4294967295 (header_row_of span) }
     ensures out_after { out.new ≡ pick write (header_put out.old k (header_row_of span)) out.old }

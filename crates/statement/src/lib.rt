@@ -52,6 +52,7 @@ pub struct RecordSpan {
     pub id: u32,
     pub keyword: Range,
     pub args: Range,
+    // Kept: a number, as the lent tables and C hold it: a row that is not the reader's own may have any, and is told as it stands (`told_row`).
     pub complex: u32,
 }
 
@@ -106,24 +107,6 @@ fn row_at(start: usize, head: Head, args: Range) -> RecordSpan
     }
 }
 
-// The data record whose text runs from start up to the `;` at end: its arguments run up to the `)` that closes its `(`.
-fn scan_data_record(s: &[u8], start: usize, end: usize) -> Result<RecordSpan, Fault>
-    requires { (start ≤ end) × (end < length s.now) }
-    ensures { told_record result ≡ record_of s.now (drop start s.now) (take (end - start) (drop start s.now)) }
-{
-    let head = match record::data_head(&s[start..end]) {
-        Ok(head) => head,
-        Err(why) => return Err(Fault::BadRecord(why, start)),
-    };
-    let opening = start + opening_of(head);
-    let close = lex::matching_paren(s, opening)?;
-    let args = Range {
-        start: opening + 1,
-        end: close,
-    };
-    Ok(row_at(start, head, args))
-}
-
 // A keyword and its arguments, by the head of a text that starts at `start`: the arguments run up to the `)` that closes the head's `(`, which is
 // sought through the whole file. A header record is such a text, and a part of a complex record.
 pub fn keyed_at(s: &[u8], start: usize, head: Named) -> Result<HeaderSpan, Fault>
@@ -144,42 +127,84 @@ pub fn keyed_at(s: &[u8], start: usize, head: Named) -> Result<HeaderSpan, Fault
     })
 }
 
-// The header record whose text runs from start up to the `;` at end.
-fn scan_header_record(s: &[u8], start: usize, end: usize) -> Result<HeaderSpan, Fault>
-    requires { (start ≤ end) × (end < length s.now) }
-    ensures { told_header_read result ≡ header_of s.now (drop start s.now) (take (end - start) (drop start s.now)) }
-{
-    match record::header_head(&s[start..end]) {
-        Ok(head) => keyed_at(s, start, head),
-        Err(why) => Err(Fault::BadRecord(why, start)),
+// A whole record of the file: its text runs from start up to the `;` at end.
+#[derive(Clone, Copy)]
+struct Record<'a> {
+    file: &'a [u8],
+    start: usize,
+    end: usize,
+    ghost ordered: { start ≤ end },
+    ghost within: { end < length file.now },
+}
+
+impl<'a> Record<'a> {
+    // As a data record: its arguments run up to the `)` that closes its `(`.
+    fn data(self) -> Result<RecordSpan, Fault>
+        ensures { told_record result ≡ record_of self.entry.file.now (drop self.entry.start self.entry.file.now) (take (self.entry.end - self.entry.start) (drop self.entry.start self.entry.file.now)) }
+    {
+        let head = match record::data_head(&self.file[self.start..self.end]) {
+            Ok(head) => head,
+            Err(why) => return Err(Fault::BadRecord(why, self.start)),
+        };
+        let opening = self.start + opening_of(head);
+        let close = lex::matching_paren(self.file, opening)?;
+        let first = opening + 1;
+        let args = Range {
+            start: first,
+            end: close,
+        };
+        Ok(row_at(self.start, head, args))
     }
-}
 
-// A record that is no section word, from start up to its `;` at end.
-fn in_section(s: &[u8], start: usize, end: usize, section: Section) -> Result<Said, Fault>
-    requires { (start ≤ end) × (end < length s.now) }
-    ensures result_value { told_said s.now result ≡ in_section s.now (drop start s.now) (drop end s.now) section }
-    ensures ahead { Ahead start (length s.now) result }
-{
-    Ok(match section {
-        Section::Outside => Said::Moves(Section::Outside, end + 1),
-        Section::InHeader => Said::Heads(scan_header_record(s, start, end)?, start, end + 1),
-        Section::InData => Said::Records(scan_data_record(s, start, end)?, start, end + 1),
-    })
-}
+    // As a header record.
+    fn header(self) -> Result<HeaderSpan, Fault>
+        ensures { told_header_read result ≡ header_of self.entry.file.now (drop self.entry.start self.entry.file.now) (take (self.entry.end - self.entry.start) (drop self.entry.start self.entry.file.now)) }
+    {
+        match record::header_head(&self.file[self.start..self.end]) {
+            Ok(head) => keyed_at(self.file, self.start, head),
+            Err(why) => Err(Fault::BadRecord(why, self.start)),
+        }
+    }
 
-// A whole record, from start up to its `;` at end.
-fn record_said(s: &[u8], start: usize, end: usize, section: Section) -> Result<Said, Fault>
-    requires { (start ≤ end) × (end < length s.now) }
-    ensures result_value { told_said s.now result ≡ ended s.now (drop start s.now) section (at (drop end s.now)) }
-    ensures ahead { Ahead start (length s.now) result }
-{
-    match record::section_word(&s[start..end]) {
-        Word::EndSection => Ok(Said::Moves(Section::Outside, end + 1)),
-        Word::Header => Ok(Said::Moves(Section::InHeader, end + 1)),
-        Word::Data => Ok(Said::Moves(Section::InData, end + 1)),
-        Word::EndFile => Ok(Said::Ends),
-        Word::Other => in_section(s, start, end, section),
+    // What it says that is no section word.
+    fn in_section(self, section: Section) -> Result<Said, Fault>
+        ensures result_value { told_said self.entry.file.now result ≡ in_section self.entry.file.now (drop self.entry.start self.entry.file.now) (drop self.entry.end self.entry.file.now) section }
+        ensures ahead { Ahead self.entry.start (length self.entry.file.now) result }
+    {
+        Ok(match section {
+            Section::Outside => Said::Moves(Section::Outside, self.end + 1),
+            Section::InHeader => Said::Heads(self.header()?, self.start, self.end + 1),
+            Section::InData => Said::Records(self.data()?, self.start, self.end + 1),
+        })
+    }
+
+    // What it says.
+    fn said(self, section: Section) -> Result<Said, Fault>
+        ensures result_value { told_said self.entry.file.now result ≡ ended self.entry.file.now (drop self.entry.start self.entry.file.now) section (at (drop self.entry.end self.entry.file.now)) }
+        ensures ahead { Ahead self.entry.start (length self.entry.file.now) result }
+    {
+        match record::section_word(&self.file[self.start..self.end]) {
+            Word::EndSection => Ok(Said::Moves(Section::Outside, self.end + 1)),
+            Word::Header => Ok(Said::Moves(Section::InHeader, self.end + 1)),
+            Word::Data => Ok(Said::Moves(Section::InData, self.end + 1)),
+            Word::EndFile => Ok(Said::Ends),
+            Word::Other => self.in_section(section),
+        }
+    }
+
+    // As a data record by its head alone, with its `)` just before the `;`.
+    fn tidied(self) -> Option<(RecordSpan, usize, usize)>
+        ensures result_value { told_tidied self.entry.file.now result ≡ tidy_by self.entry.file.now (drop self.entry.start self.entry.file.now) (drop self.entry.end self.entry.file.now) (data_head (take (self.entry.end - self.entry.start) (drop self.entry.start self.entry.file.now))) }
+        ensures tidy_ahead { TidyAhead self.entry.start (length self.entry.file.now) result }
+    {
+        let Ok(head) = record::data_head(&self.file[self.start..self.end]) else {
+            return None;
+        };
+        let args = Range {
+            start: self.start + opening_of(head) + 1,
+            end: self.end - 1,
+        };
+        Some((row_at(self.start, head, args), self.start, self.end + 1))
     }
 }
 
@@ -192,6 +217,9 @@ fn is_mark(b: u8) -> bool
 }
 
 // The first marked place from `from` on, or the length: the last bytes of a file.
+// Kept: here and in the searches below `s` and `from` go together, with `from ≤ length s`. Slices from the place on are no plainer: each answer is a place in
+// the whole file, so each search would add where it had cut. Nor is a struct of both: the next place is computed from the answer (`close + 1`), so each caller
+// would build the struct anew and prove the fact there, as it does now for the clause.
 fn last_run(s: &[u8], from: usize) -> usize
     requires { from ≤ length s.now }
     ensures s_value { drop result s.now ≡ past is_plain_byte (drop from s.now) }
@@ -440,7 +468,12 @@ fn sought_at(s: &[u8], start: usize, section: Section) -> Result<Said, Fault>
     ensures ahead { Ahead start (length s.now) result }
 {
     let end = lex::find_record_end(s, start)?;
-    record_said(s, start, end, section)
+    let found = Record {
+        file: s,
+        start,
+        end,
+    };
+    found.said(section)
 }
 
 // Whether one of the sixteen bytes from i on is a `;`. A loop that only notes a hit is done on all of them at once.
@@ -573,22 +606,6 @@ pub fn next_statement(s: &[u8], i: usize, section: Section) -> Result<Said, Faul
     Ok(noted_statement(s, i, section)?.said)
 }
 
-// The record from start on whose `;` stands at end, by its head, with its `)` just before the `;`.
-fn tidy_at(s: &[u8], start: usize, end: usize) -> Option<(RecordSpan, usize, usize)>
-    requires { (start ≤ end) × (end < length s.now) }
-    ensures result_value { told_tidied s.now result ≡ tidy_by s.now (drop start s.now) (drop end s.now) (data_head (take (end - start) (drop start s.now))) }
-    ensures tidy_ahead { TidyAhead start (length s.now) result }
-{
-    let Ok(head) = record::data_head(&s[start..end]) else {
-        return None;
-    };
-    let args = Range {
-        start: start + opening_of(head) + 1,
-        end: end - 1,
-    };
-    Some((row_at(start, head, args), start, end + 1))
-}
-
 // The data record from the place i on, after whitespace, as its first `;` gives it, with its start and the place after it: what the statement
 // says where that is tidy. A caller who knows that reads it with nothing tested again.
 pub fn tidy_record(s: &[u8], i: usize) -> Option<(RecordSpan, usize, usize)>
@@ -603,5 +620,10 @@ pub fn tidy_record(s: &[u8], i: usize) -> Option<(RecordSpan, usize, usize)>
     if s.len() <= end {
         return None;
     }
-    tidy_at(s, start, end)
+    let found = Record {
+        file: s,
+        start,
+        end,
+    };
+    found.tidied()
 }

@@ -145,16 +145,6 @@ fn group_four(s: &[u8]) -> Option<Char>
     })
 }
 
-// A group of so many digits: four, or eight.
-fn group(s: &[u8], width: usize) -> Option<Char>
-    ensures { told_group result ≡ group_of width s.now }
-{
-    if width == 4 {
-        return group_two(s);
-    }
-    group_four(s)
-}
-
 // How many bytes a `\X0` takes with the byte after it, or 0.
 fn closing_len(s: &[u8]) -> usize
     ensures { result ≡ closing_taken s.now }
@@ -192,14 +182,7 @@ fn plain_blocks(s: &[u8], from: usize) -> usize
     requires { (from ≤ length s.now) × (plain (take from s.now) ≡ true) }
     ensures { (result ≤ length s.now) × (plain (take result s.now) ≡ true) }
 {
-    let blocks = (s.len() - from) / 64;
-    for k in 0..blocks {
-        let at = from + 64 * k;
-        if block_differs(s, at) {
-            return at;
-        }
-    }
-    from + 64 * blocks
+    lex::pass_blocks(s, from, (), |at, _| (!block_differs(s, at)).then_some(())).0
 }
 
 // Past the bytes that are the text as they stand, one by one from a place up to another.
@@ -321,11 +304,19 @@ struct Reached {
     used: usize,
 }
 
-// The groups of a directive whose four bytes stand at the start, up to their end; a bad one leaves the characters before it and a
+// The groups of so many digits of a directive whose four bytes stand at the start, up to their end, each read by `group`; a bad one leaves the characters before it and a
 // literal backslash.
 // Kept: the loop goes on by the bytes that a group takes, which no `for` counts.
-fn groups(s: &[u8], width: usize, out: &mut [u8], at: usize) -> Reached
-    requires { 4 ≤ length s.now }
+fn groups<F: Fn(&[u8]) -> Option<Char>>(
+    s: &[u8],
+    width: usize,
+    group: F,
+    out: &mut [u8],
+    at: usize,
+) -> Reached
+    requires marked { 4 ≤ length s.now }
+    requires ready { (t : _) → F.pre group t }
+    requires reads { (t : _) (r : _) → F.post group t r → told_group r ≡ group_of width t.now }
     ensures { PiecePut (extended (groups_from width 0 (drop 4 s.now))) at out.old result.at result.used out.new }
 {
     let mut i = 4;
@@ -338,7 +329,7 @@ fn groups(s: &[u8], width: usize, out: &mut [u8], at: usize) -> Reached
                 used: i + closing_len(t),
             };
         }
-        let Some(g) = group(t, width) else {
+        let Some(g) = group(t) else {
             return Reached {
                 at: put_char(out, n, 92),
                 used: 1,
@@ -358,10 +349,10 @@ fn long(s: &[u8], out: &mut [u8], at: usize) -> Reached
     let y = byte_at(s, 2);
     let z = byte_at(s, 3);
     if (x == 88) & ((y == 50) & (z == 92)) {
-        return groups(s, 4, out, at);
+        return groups(s, 4, group_two, out, at);
     }
     if (x == 88) & ((y == 52) & (z == 92)) {
-        return groups(s, 8, out, at);
+        return groups(s, 8, group_four, out, at);
     }
     Reached {
         at: put_char(out, at, 92),
@@ -519,24 +510,13 @@ pub fn text_length(raw: &[u8]) -> usize
     run(raw, p, &mut none)
 }
 
-// As `plain_len`; for a short string, as most are, it is one loop, which the compiler puts where it is asked for.
-fn first_plain(s: &[u8]) -> usize
-    ensures { PlainPassed s.now (length s.now) result }
-{
-    let n = s.len();
-    if n < 64 {
-        return plain_to(s, 0, n);
-    }
-    plain_len(s)
-}
-
 // Finds a string's text, and writes it where it is not the string itself and fits; none where the room is too short.
 pub fn decode_string(raw: &[u8], out: &mut [u8]) -> Option<Decoded>
     ensures value { result ≡ decoded_of raw.now (length out.old) }
     ensures out_after { out.new ≡ room_after raw.now out.old }
     ensures result_after { told_text raw.now out.new result ≡ answer_of raw.now (length out.old) }
 {
-    let p = first_plain(raw);
+    let p = plain_len(raw);
     if p == raw.len() {
         return Some(Decoded::Plain);
     }

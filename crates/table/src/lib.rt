@@ -19,6 +19,9 @@ pub const ROW_WIDTH: usize = 6;
 
 pub const HEADER_WIDTH: usize = 4;
 
+// Kept: the pairs for data rows and header rows below. The two layouts differ in their fields too, so a const parameter would only turn `rows_fit(n)`
+// into `fit::<6>(n)` at each caller, and the rules of specs/Table name each by its word.
+//
 // How many data rows lie in so many numbers.
 pub fn rows_fit(numbers: usize) -> usize
     ensures { result ≡ rows_fit numbers }

@@ -1,7 +1,7 @@
 // Where a byte is found, and where a string and a comment end: the leaps that a search makes over bytes that mean nothing to it.
 //
-// As memchr, string_end and find_comment_end of the Rust's scan.rs and value.rs. A byte and a string's end are sought by `lex`. No function
-// has a `requires`: a start past the end counts as the end.
+// As memchr, string_end and find_comment_end of the Rust's scan.rs and value.rs. `lex` seeks them. No function has a `requires`: a start past the
+// end counts as the end.
 #![tactic(auto)]
 
 ghost use Rattle.std.specs.Prelude.{◌≡◌, ◌+◌, ◌≤◌, min, length, drop};
@@ -32,20 +32,9 @@ pub fn string_end(s: &[u8], start: usize) -> Option<usize>
 }
 
 // Where the comment ends whose `/*` stands before `start`: after the first `*/`.
-// Kept: the loop leaps from star to star, which no `for` counts.
 pub fn comment_end(s: &[u8], start: usize) -> Option<usize>
     ensures result_value { told_token_end s.now result ≡ comment_rest (drop start s.now) }
     ensures token_end_in { TokenEndIn start (length s.now) result }
 {
-    let mut i = start.min(s.len());
-    loop {
-        let q = find_byte(s, i, b'*');
-        if q == s.len() {
-            return None;
-        }
-        if is_at(s, q + 1, b'/') {
-            return Some(q + 2);
-        }
-        i = q + 1;
-    }
+    lex::comment_end(s, start)
 }

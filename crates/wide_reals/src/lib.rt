@@ -160,37 +160,6 @@ fn rounded(neg: bool, w: u64, more: bool, x: u64) -> f64
     f64_rounding::with_sign(neg, pattern)
 }
 
-fn raised_within(neg: bool, m: u64, k: usize) -> f64
-    requires { (0 < m) × (k ≤ reach) }
-    ensures { to_bits binary64 result ≡ signed neg (near (m * 10 ^ k) 1) }
-{
-    let n = lift(m);
-    let f = lifted_five(k);
-    let p = multiply(n.value, f.value);
-    rounded(
-        neg,
-        p.high,
-        p.low != 0,
-        1138 + k as u64 - n.by as u64 - f.by as u64,
-    )
-}
-
-// The quotient by long division: whatever is left tells the tie.
-fn lowered_exactly(neg: bool, m: u64, k: usize) -> f64
-    requires { (0 < m) × (k ≤ reach) }
-    ensures { to_bits binary64 result ≡ signed neg (near m (10 ^ k)) }
-{
-    let n = lift(m);
-    let f = lifted_five(k);
-    let q = divide(n.value, f.value);
-    rounded(
-        neg,
-        q.digits,
-        q.rest != 0,
-        1020 + f.by as u64 - n.by as u64 - k as u64,
-    )
-}
-
 // 2^(64 + e) by 5^k, rounded down, for each k up to 64, e being `halvings`; for k = 0, where that is 2^64, one below it.
 static RECIPROCALS: [u64; 65] = [
     18446744073709551615,
@@ -268,25 +237,68 @@ fn reciprocal(k: usize) -> u64
     RECIPROCALS[k]
 }
 
-// The quotient: by the reciprocal, whose product is less than two too small, and where that leaves a doubt by long division.
-fn lowered_within(neg: bool, m: u64, k: usize) -> f64
-    requires { (0 < m) × (k ≤ far) }
-    ensures { to_bits binary64 result ≡ signed neg (near m (10 ^ k)) }
-{
-    let n = lift(m);
-    let p = multiply(n.value, reciprocal(k));
-    if is_sure(p.high) {
-        return rounded(
-            neg,
+// A number other than 0, the exponent of the power of ten that it is multiplied or divided by, and the sign of what that gives.
+#[derive(Clone, Copy)]
+struct Scaled {
+    neg: bool,
+    m: u64,
+    k: usize,
+    ghost nonzero: { 0 < m },
+}
+
+impl Scaled {
+    // m * 10^k, by one product.
+    fn raised_within(self) -> f64
+        requires { self.k ≤ reach }
+        ensures { to_bits binary64 result ≡ signed self.neg (near (self.m * 10 ^ self.k) 1) }
+    {
+        let n = lift(self.m);
+        let f = lifted_five(self.k);
+        let p = multiply(n.value, f.value);
+        rounded(
+            self.neg,
             p.high,
-            false,
-            1074 - halvings(k) - n.by as u64 - k as u64,
-        );
+            p.low != 0,
+            1138 + self.k as u64 - n.by as u64 - f.by as u64,
+        )
     }
-    if 27 < k {
-        return long_reals::lowered(neg, m, k);
+
+    // The quotient by long division: whatever is left tells the tie.
+    fn lowered_exactly(self) -> f64
+        requires { self.k ≤ reach }
+        ensures { to_bits binary64 result ≡ signed self.neg (near self.m (10 ^ self.k)) }
+    {
+        let n = lift(self.m);
+        let f = lifted_five(self.k);
+        let q = divide(n.value, f.value);
+        rounded(
+            self.neg,
+            q.digits,
+            q.rest != 0,
+            1020 + f.by as u64 - n.by as u64 - self.k as u64,
+        )
     }
-    lowered_exactly(neg, m, k)
+
+    // The quotient: by the reciprocal, whose product is less than two too small, and where that leaves a doubt by long division.
+    fn lowered_within(self) -> f64
+        requires { self.k ≤ far }
+        ensures { to_bits binary64 result ≡ signed self.neg (near self.m (10 ^ self.k)) }
+    {
+        let n = lift(self.m);
+        let p = multiply(n.value, reciprocal(self.k));
+        if is_sure(p.high) {
+            return rounded(
+                self.neg,
+                p.high,
+                false,
+                1074 - halvings(self.k) - n.by as u64 - self.k as u64,
+            );
+        }
+        if 27 < self.k {
+            return long_reals::lowered(self.neg, self.m, self.k);
+        }
+        self.lowered_exactly()
+    }
 }
 
 // The f64 nearest to m * 10^k, with its sign, which zero has too.
@@ -299,7 +311,7 @@ pub fn raised(neg: bool, m: u64, k: usize) -> f64
     if 27 < k {
         return long_reals::raised(neg, m, k);
     }
-    raised_within(neg, m, k)
+    Scaled { neg, m, k }.raised_within()
 }
 
 // The f64 nearest to m / 10^k, with its sign, which zero has too.
@@ -312,5 +324,5 @@ pub fn lowered(neg: bool, m: u64, k: usize) -> f64
     if 64 < k {
         return long_reals::lowered(neg, m, k);
     }
-    lowered_within(neg, m, k)
+    Scaled { neg, m, k }.lowered_within()
 }

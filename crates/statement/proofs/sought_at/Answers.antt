@@ -3,13 +3,13 @@ use Rattle.statement.specs.Laws.{begun_found, begun_refused}
 use Rattle.lex.specs.At.{end_at}
 use Rattle.statement.proofs.sought_at.Goals as goal
 
-pub record_said-requires : goal.record_said-requires
-record_said-requires c = let a = c.args in
-    let e = end_at a.s.now a.start _ (omega arith) c.in_ok-end.ensures in (e.1, e.2)
+pub invariant_of-found : goal.invariant_of-found
+invariant_of-found c = let a = c.args in
+    let e = end_at a.s.now a.start _ (omega arith) c.in_ok-end.ensures in record { ordered = e.1; within = e.2 }
 
 pub returns-clause-result_value : goal.returns-clause-result_value
 returns-clause-result_value c = let a = c.args in
-    c.record_said.ensures.result_value ∙ begun_found a.s.now a.start a.section (omega arith) _ c.in_ok-end.ensures
+    c.said.ensures.result_value ∙ begun_found a.s.now a.start a.section (omega arith) _ c.in_ok-end.ensures
 
 pub returns-in_err-end-clause-result_value : goal.returns-in_err-end-clause-result_value
 returns-in_err-end-clause-result_value c = let a = c.args in

@@ -20,4 +20,4 @@ pub returns : goal.returns
 returns c = let a = c.args in
     let r = c.leading_space in
     let f = c.first_end-end in
-    let t = c.tidy_at in record { result_value = t.ensures.result_value ∙ tidy_found a.s.now a.i (a.i + r.result) f.result (space_at a.s.now a.i r.result (omega arith) r.ensures.b_value) f.ensures.s_value f.ensures.lower_bound.0 (omega arith); tidy_ahead = tidy_ahead a.i (a.i + r.result) (length a.s.now) t.result (omega arith) t.ensures.tidy_ahead }
+    let t = c.tidied in record { result_value = t.ensures.result_value ∙ tidy_found a.s.now a.i (a.i + r.result) f.result (space_at a.s.now a.i r.result (omega arith) r.ensures.b_value) f.ensures.s_value f.ensures.lower_bound.0 (omega arith); tidy_ahead = tidy_ahead a.i (a.i + r.result) (length a.s.now) t.result (omega arith) t.ensures.tidy_ahead }

@@ -5,8 +5,8 @@ use Rattle.strings.specs.Code.{view_of}
 use Rattle.strings.specs.Ways.{piece_put_view, piece_put_one, marked_four, long_two, long_four, long_none}
 use Rattle.strings.proofs.long.Goals as goal
 
-pub groups-requires : goal.groups-requires
-groups-requires c =
+pub groups-requires-clause-marked : goal.groups-requires-clause-marked
+groups-requires-clause-marked c =
     let a = c.args in
     marked_four a.s.now c.byte_at-x.result c.byte_at-y.result c.byte_at-z.result c.byte_at-x.ensures c.byte_at-y.ensures c.byte_at-z.ensures 50 c.if-x-y.true
 
@@ -15,8 +15,8 @@ returns-then-x-y c =
     let a = c.args in
     piece_put_view (extended (groups_from 4 0 (drop 4 a.s.now))) (long_of a.s.now) a.at a.out.now _ _ _ (ap view_of (long_two a.s.now c.byte_at-x.result c.byte_at-y.result c.byte_at-z.result c.byte_at-x.ensures c.byte_at-y.ensures c.byte_at-z.ensures c.if-x-y.true)) c.groups.ensures
 
-pub groups-requires-then-x-y-2 : goal.groups-requires-then-x-y-2
-groups-requires-then-x-y-2 c =
+pub groups-requires-then-x-y-2-clause-marked : goal.groups-requires-then-x-y-2-clause-marked
+groups-requires-then-x-y-2-clause-marked c =
     let a = c.args in
     marked_four a.s.now c.byte_at-x.result c.byte_at-y.result c.byte_at-z.result c.byte_at-x.ensures c.byte_at-y.ensures c.byte_at-z.ensures 52 c.if-x-y-2.true
 
