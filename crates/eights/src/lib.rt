@@ -1,22 +1,14 @@
 // Eight digits of a number at once.
 //
-// Their bytes are joined to one number of 64 binary digits, in which each byte has a field of eight. Two tests ask all fields whether they are
+// Their bytes are joined to one number of 64 binary digits, in which each byte has a field of eight, the first byte the lowest: just as they stand in
+// memory, so that they are loaded at once. Two tests ask all fields whether they are
 // digits, and three sums put neighbouring fields together: eight digits to four pairs, to two fours, to one number. So no byte waits for the one
 // before it.
 #![tactic(auto)]
 
-ghost use Rattle.std.specs.Prelude.{◌≡◌, [], ◌∷◌, ◌≤◌};
-ghost use Rattle.eights.specs.Eights.{joined_of, DigitsTest, Makes};
+ghost use Rattle.std.specs.Prelude.{◌≤◌};
+ghost use Rattle.eights.specs.Eights.{DigitsTest, Makes};
 ghost use Rattle.eights.specs.Told.{EightTold};
-
-// The bytes as one number, the first in the lowest field: just as they stand in memory, so that the compiler loads them at once.
-fn joined(a: u8, b: u8, c: u8, d: u8, e: u8, f: u8, g: u8, h: u8) -> u64
-    ensures { result ≡ joined_of (a ∷ b ∷ c ∷ d ∷ e ∷ f ∷ g ∷ h ∷ []) }
-{
-    let low = a as u64 + b as u64 * 0x100 + c as u64 * 0x1_0000 + d as u64 * 0x100_0000;
-    let high = e as u64 + f as u64 * 0x100 + g as u64 * 0x1_0000 + h as u64 * 0x100_0000;
-    low + high * 0x1_0000_0000
-}
 
 // Whether all eight bytes are digits: `0` is 0x30 and `9` is 0x39, so the upper half of each is 3, and is still 3 with 6 added.
 fn are_digits(w: u64) -> bool
@@ -41,10 +33,10 @@ fn value(w: u64) -> u64
 }
 
 // The number that eight bytes make, if all are digits.
-pub fn number(a: u8, b: u8, c: u8, d: u8, e: u8, f: u8, g: u8, h: u8) -> Option<u64>
-    ensures { EightTold (a ∷ b ∷ c ∷ d ∷ e ∷ f ∷ g ∷ h ∷ []) result }
+pub fn number(bytes: &[u8; 8]) -> Option<u64>
+    ensures { EightTold bytes.now result }
 {
-    let w = joined(a, b, c, d, e, f, g, h);
+    let w = u64::from_le_bytes(*bytes);
     if are_digits(w) {
         return Some(value(w));
     }

@@ -46,8 +46,9 @@ const FARTHEST: usize = 27;
 // Exponents from here on count as this one: no text is long enough for its fraction to make up for it.
 const LARGEST: u64 = 0xffff_ffff_ffff_ffff;
 
-// Kept: from here on `t` and `at` go together. A text cut at the place is no plainer: each answer is a place in the whole text, so every caller would add
-// where it had cut.
+// Kept: from here on `t` and `at` go together, and five contracts ask `at ≤ length t`. A text cut at the place is no plainer: each answer is a place in the
+// whole text, so every caller would add where it had cut. A struct of both, with that fact as a ghost field, is none either: of each answer (`Number`,
+// `Decimal`) only the place goes on, so each caller would build the struct anew and prove the fact there, as it does now for the clause.
 fn minus_at(t: &[u8], at: usize) -> bool
     ensures { result ≡ is_minus (drop at t.now) }
 {
@@ -159,15 +160,10 @@ fn eight_at(t: &[u8], at: usize) -> Option<u64>
     if t.len() - at < 8 {
         return None;
     }
-    let a = t[at];
-    let b = t[at + 1];
-    let c = t[at + 2];
-    let d = t[at + 3];
-    let e = t[at + 4];
-    let f = t[at + 5];
-    let g = t[at + 6];
-    let h = t[at + 7];
-    eights::number(a, b, c, d, e, f, g, h)
+    let Ok(bytes) = <&[u8; 8]>::try_from(&t[at..at + 8]) else {
+        return None;
+    };
+    eights::number(bytes)
 }
 
 // A number with n digits more, which move it up by `scale`; or as it is, where there are none.
@@ -393,6 +389,7 @@ pub fn read_real(which: Reals, t: &[u8]) -> Result<f64, NotRead>
         return Err(NotRead::NotReal);
     };
     let p = less_places(e, d.places);
+    // Kept: one match on an enum. A closure in place of `which` would go through every list's and grid's reader down to here.
     match which {
         Reals::Class => in_class(neg, d.value, p),
         Reals::Any => Ok(any_real(neg, &t[a..end], d.value, p)),
@@ -400,6 +397,7 @@ pub fn read_real(which: Reals, t: &[u8]) -> Result<f64, NotRead>
 }
 
 // Reads a real of the class.
+// Kept: it is `read_real` of the class, but the one that docs/DESIGN.md names for the paper's 'Real class', with `real_of` in its contract.
 pub fn parse_real(t: &[u8]) -> Result<f64, NotRead>
     ensures { told_real result ≡ real_of t.now }
 {

@@ -213,6 +213,8 @@ fn plain_len(s: &[u8]) -> usize
     plain_to(s, plain_blocks(s, i), n)
 }
 
+// Kept: the room and the place in it go apart through the functions below. A struct of both is as fast, but what is lent it may exchange its room
+// for another, so that ten contracts and three loops would have to say too that it still lends the same one.
 // Copies the first bytes of a part of the file to a place of the room, where they fit.
 fn copy(s: &[u8], n: usize, out: &mut [u8], at: usize)
     requires { (n ≤ length s.now) × (at + n ≤ length out.old) }

@@ -4,4 +4,5 @@ pub mod Encoding
 pub mod Laws
 pub mod Rfc3629
 pub mod Agree
+pub mod Library
 pub mod Examples
