@@ -1,7 +1,7 @@
 // Rounding: a number that was cut below some binary digits, with whether anything was left below the cut.
 #![tactic(auto)]
 
-ghost use Rattle.std.specs.Prelude.{◌≡◌, ◌≤◌, ◌/◌, ◌%◌, ◌^◌};
+ghost use Rattle.std.specs.Prelude.{◌≡◌, ◌/◌, ◌%◌, ◌^◌, min};
 ghost use Rattle.std.specs.Float.{binary64};
 ghost use Rattle.std.specs.Float.Ieee.{nearest, to_bits};
 ghost use Rattle.nearest.specs.Nearest.{signed};
@@ -24,13 +24,13 @@ pub fn rounded_off(w: u64, more: bool, drop: u32) -> u64
     q
 }
 
-// The f64 of a pattern, infinity's at most, with its sign, which zero has too.
+// The f64 of a pattern with its sign, which zero has too. A pattern past infinity's, which a NaN would have, counts as infinity's.
 pub fn with_sign(neg: bool, pattern: u64) -> f64
-    requires { pattern ≤ infinity }
-    ensures { to_bits binary64 result ≡ signed neg pattern }
+    ensures { to_bits binary64 result ≡ signed neg (min pattern infinity) }
 {
+    let bits = pattern.min(0x7ff0_0000_0000_0000);
     if neg {
-        return f64::from_bits(0x8000_0000_0000_0000 + pattern);
+        return f64::from_bits(0x8000_0000_0000_0000 + bits);
     }
-    f64::from_bits(pattern)
+    f64::from_bits(bits)
 }

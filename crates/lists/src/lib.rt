@@ -56,23 +56,21 @@ pub struct BadItem {
 }
 
 impl BadItem {
-    // The same, seen from so many bytes further back.
+    // The same, seen from so many bytes further back. A place past the greatest number counts as that one, here and below.
     pub fn moved(self, by: usize) -> BadItem
-        requires { by + self.place < 2 ^ 63 }
-        ensures { result ≡ record { why = self.why; place = by + self.place } }
+        ensures { result ≡ record { why = self.why; place = min (by + self.place) 18446744073709551615 } }
     {
         BadItem {
             why: self.why,
-            place: by + self.place,
+            place: by.saturating_add(self.place),
         }
     }
 
     // The refusal of the text that starts at `start`.
     pub fn fault(self, start: usize) -> Fault
-        requires { start + self.place < 2 ^ 63 }
-        ensures { told result ≡ refusal (number_of self.why) 0 (start + self.place) }
+        ensures { told result ≡ refusal (number_of self.why) 0 (min (start + self.place) 18446744073709551615) }
     {
-        scalars::refused_real(self.why, start + self.place)
+        scalars::refused_real(self.why, start.saturating_add(self.place))
     }
 }
 

@@ -9,15 +9,15 @@ use Rattle.f64_rounding.proofs.with_sign.Goals as goal
 -- `f64_rounding::with_sign` meets its contract: a pattern up to infinity's is no NaN's, and the sign is the highest bit. Assumes nothing.
 
 pub float_from_bits-result : goal.float_from_bits-result
-float_from_bits-result c = no_nan_minus _ c.requires
+float_from_bits-result c = no_nan_minus c.min-bits.result (omega arith)
 
 pub returns-then-neg : goal.returns-then-neg
 returns-then-neg c =
-    bits_back _ (omega arith) (no_nan_minus _ c.requires) ∙ ap (λ (n : Bool). signed n c.args.pattern) (sym c.if-neg.true)
+    bits_back _ (omega arith) (no_nan_minus c.min-bits.result (omega arith)) ∙ ap (λ (b : Bool). signed b c.min-bits.result) (sym c.if-neg.true) ∙ ap (signed c.args.neg) c.min-bits.ensures
 
 pub float_from_bits-result-2 : goal.float_from_bits-result-2
-float_from_bits-result-2 c = no_nan _ c.requires
+float_from_bits-result-2 c = no_nan c.min-bits.result (omega arith)
 
 pub returns : goal.returns
 returns c =
-    bits_back _ (omega arith) (no_nan _ c.requires) ∙ sym (zero-add c.args.pattern) ∙ ap (λ (n : Bool). signed n c.args.pattern) (sym c.if-neg.false)
+    bits_back _ (omega arith) (no_nan c.min-bits.result (omega arith)) ∙ sym (zero-add c.min-bits.result) ∙ ap (λ (b : Bool). signed b c.min-bits.result) (sym c.if-neg.false) ∙ ap (signed c.args.neg) c.min-bits.ensures

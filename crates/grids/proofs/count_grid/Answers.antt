@@ -2,10 +2,11 @@ use Rattle.lists.specs.Laws.{tally, shape_none, shape_blank, shape_full, body_le
 use Rattle.lists.specs.Answer.{fated}
 use Rattle.grids.specs.Grid.{size, add_row, row_of}
 use Rattle.grids.specs.Laws.{tally_inward}
+use Rattle.std.proofs.Math.Nat.{min-eq_left}
 use native.Mathlib.Omega.{arith}
 use mathlib.Core.Path.{ap}
 use lib.ListN.{length, take, drop}
-use Prim.Native.Nat.{◌-◌}
+use Prim.Native.Nat.{◌+◌, ◌-◌, ◌≤◌}
 use Rattle.grids.proofs.count_grid.Goals as goal
 
 pub overflow_sub-n : goal.overflow_sub-n
@@ -17,10 +18,11 @@ slice_bounds-count_rows-count c = let (n, f, o) = shape_full _ _ c.shape_of.ensu
 pub slice_bounds-count_rows-start : goal.slice_bounds-count_rows-start
 slice_bounds-count_rows-start c = let (n, f, o) = shape_full _ _ c.shape_of.ensures c.in-Full.is in omega (arith, n)
 
-pub moved-requires : goal.moved-requires
-moved-requires c = let t = c.args in
+pub returns-in-Err : goal.returns-in-Err
+returns-in-Err c = let t = c.args in
     let (n, f, o) = shape_full t.t.now _ c.shape_of.ensures c.in-Full.is in
-    omega (arith, n, body_length t.t.now n, tally_inward t.kind (take (length t.t.now - 1 - 1) (drop 1 t.t.now)) _ _ c.in-Err.ensures)
+    let l : 1 + c.in-Err.bad.place ≤ 18446744073709551615 = omega (arith, n, body_length t.t.now n, tally_inward t.kind (take (length t.t.now - 1 - 1) (drop 1 t.t.now)) _ _ c.in-Err.ensures) in
+    rw (c.moved.ensures, min-eq_left l) (told_full (tally add_row (size 0 0)) (row_of t.kind) t.t.now _ c.shape_of.ensures c.in-Full.is _ c.in-Err.ensures)
 
 pub returns-in-NotList : goal.returns-in-NotList
 returns-in-NotList c = let t = c.args in
@@ -34,7 +36,3 @@ returns-in-Blank c = let t = c.args in
 pub returns-in-Ok : goal.returns-in-Ok
 returns-in-Ok c = let t = c.args in
     told_full (tally add_row (size 0 0)) (row_of t.kind) t.t.now _ c.shape_of.ensures c.in-Full.is _ c.in-Ok.ensures
-
-pub returns-in-Err : goal.returns-in-Err
-returns-in-Err c = let t = c.args in
-    rw c.moved.ensures (told_full (tally add_row (size 0 0)) (row_of t.kind) t.t.now _ c.shape_of.ensures c.in-Full.is _ c.in-Err.ensures)

@@ -1,9 +1,10 @@
 use Rattle.lists.specs.Laws.{tally_starts, tally_bad, tally_last, tally_more}
 use Rattle.grids.specs.Grid.{size, add_row, row_of}
+use Rattle.std.proofs.Math.Nat.{min-eq_left}
 use native.Mathlib.Omega.{arith}
 use lib.ListN.{drop, length-drop}
 use lib.Seq.{length-take-le}
-use Prim.Native.Nat.{◌-◌}
+use Prim.Native.Nat.{◌+◌, ◌-◌, ◌≤◌}
 use Rattle.grids.proofs.count_rows.Goals as goal
 
 pub loop-k-init : goal.loop-k-init
@@ -22,12 +23,10 @@ pub overflow_add-numbers : goal.overflow_add-numbers
 overflow_add-numbers c = let w = length-take-le (c.item_at-w.result.stop - c.item_at-w.result.start) (drop c.item_at-w.result.start c.args.b.now) (omega (arith, c.item_at-w.ensures.short, c.item_at-w.ensures.within, length-drop c.item_at-w.result.start c.args.b.now)) in
     omega (arith, w, c.item_at-w.ensures.ordered, c.item_at-w.ensures.short, c.item_at-w.ensures.within, c.item_at-w.ensures.begins, c.in-Ok.ensures.counted_in)
 
-pub moved-requires : goal.moved-requires
-moved-requires c = let w = length-take-le (c.item_at-w.result.stop - c.item_at-w.result.start) (drop c.item_at-w.result.start c.args.b.now) (omega (arith, c.item_at-w.ensures.short, c.item_at-w.ensures.within, length-drop c.item_at-w.result.start c.args.b.now)) in
-    omega (arith, w, c.item_at-w.ensures.ordered, c.item_at-w.ensures.short, c.item_at-w.ensures.within, c.item_at-w.ensures.begins, c.in-Err.ensures.counted_in)
-
 pub returns-in-Err : goal.returns-in-Err
-returns-in-Err c = rw c.moved.ensures (tally_bad (row_of c.args.kind) add_row c.args.b.now c.loop-k.i c.loop-k.rows c.item_at-w.result c.item_at-w.ensures (omega arith) (omega arith) (size c.loop-k.rows c.loop-k.numbers) _ c.loop-k.invariant.3 _ _ c.in-Err.ensures.result_value)
+returns-in-Err c = let w = length-take-le (c.item_at-w.result.stop - c.item_at-w.result.start) (drop c.item_at-w.result.start c.args.b.now) (omega (arith, c.item_at-w.ensures.short, c.item_at-w.ensures.within, length-drop c.item_at-w.result.start c.args.b.now)) in
+    let l : c.item_at-w.result.start + c.in-Err.bad.place ≤ 18446744073709551615 = omega (arith, w, c.item_at-w.ensures.ordered, c.item_at-w.ensures.short, c.item_at-w.ensures.within, c.item_at-w.ensures.begins, c.in-Err.ensures.counted_in) in
+    rw (c.moved.ensures, min-eq_left l) (tally_bad (row_of c.args.kind) add_row c.args.b.now c.loop-k.i c.loop-k.rows c.item_at-w.result c.item_at-w.ensures (omega arith) (omega arith) (size c.loop-k.rows c.loop-k.numbers) _ c.loop-k.invariant.3 _ _ c.in-Err.ensures.result_value)
 
 pub returns-then-w-b : goal.returns-then-w-b
 returns-then-w-b c = let w = length-take-le (c.item_at-w.result.stop - c.item_at-w.result.start) (drop c.item_at-w.result.start c.args.b.now) (omega (arith, c.item_at-w.ensures.short, c.item_at-w.ensures.within, length-drop c.item_at-w.result.start c.args.b.now)) in

@@ -6,15 +6,15 @@ use Rattle.grids.specs.Laws.{grid_inward}
 use Rattle.error.specs.Refusal.{refusal, good, bad}
 use mathlib.Core.Path.{ap, sym, ◌∙◌}
 use mathlib.Core.Bool.{Bool}
+use Rattle.std.proofs.Math.Nat.{min-eq_left}
 use native.Mathlib.Omega.{arith}
+use Prim.Native.Nat.{◌+◌, ◌≤◌}
 use Rattle.grids.proofs.room_for.Goals as goal
-
-pub fault-requires : goal.fault-requires
-fault-requires c = omega (arith, c.requires, grid_inward c.args.kind c.args.t.now _ _ c.in-Err.ensures)
 
 pub returns-in-Err : goal.returns-in-Err
 returns-in-Err c = let t = c.args in
-    rw c.fault.ensures (roomed_bad (size_fits t.room t.ends) t.start _ _ _ c.in-Err.ensures)
+    let l : t.start + c.in-Err.bad.place ≤ 18446744073709551615 = omega (arith, c.requires, grid_inward t.kind t.t.now _ _ c.in-Err.ensures) in
+    rw (c.fault.ensures, min-eq_left l) (roomed_bad (size_fits t.room t.ends) t.start _ _ _ c.in-Err.ensures)
 
 pub returns-then-size-room : goal.returns-then-size-room
 returns-then-size-room c = let t = c.args in

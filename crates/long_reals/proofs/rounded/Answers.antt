@@ -2,6 +2,7 @@ use Prim.Native.Nat.{◌^◌, ◌≤◌}
 use mathlib.Core.Path.{sym, ◌∙◌, ap}
 use mathlib.Core.Logic.{⊎_elim}
 use native.Mathlib.Omega.{arith}
+use Rattle.std.proofs.Math.Nat.{min-eq_left}
 use Rattle.nearest.specs.Nearest.{signed}
 use Rattle.long_reals.specs.Pattern.{past_infinity, seen_le, seen_near}
 use Rattle.long_reals.proofs.rounded.Goals as goal
@@ -20,12 +21,8 @@ overflow_add-pattern-2 c =
     let h = seen_le a.w a.more a.y c.rounded_off.result c.spare-drop.result c.ranges.w.fits c.requires (omega arith) c.spare-drop.ensures c.rounded_off.ensures in
     record { fits = omega (arith, h) }
 
-pub with_sign-requires : goal.with_sign-requires
-with_sign-requires c =
-    let a = c.args in
-    seen_le a.w a.more a.y c.rounded_off.result c.spare-drop.result c.ranges.w.fits c.requires (omega arith) c.spare-drop.ensures c.rounded_off.ensures
-
 pub returns : goal.returns
 returns c =
     let a = c.args in
-    λ num den t. c.with_sign.ensures ∙ ap (signed a.neg) (seen_near a.w a.more a.y c.rounded_off.result c.spare-drop.result c.ranges.w.fits c.requires (omega arith) c.spare-drop.ensures c.rounded_off.ensures num den t)
+    let h = seen_le a.w a.more a.y c.rounded_off.result c.spare-drop.result c.ranges.w.fits c.requires (omega arith) c.spare-drop.ensures c.rounded_off.ensures in
+    λ num den t. c.with_sign.ensures ∙ ap (signed a.neg) (min-eq_left h) ∙ ap (signed a.neg) (seen_near a.w a.more a.y c.rounded_off.result c.spare-drop.result c.ranges.w.fits c.requires (omega arith) c.spare-drop.ensures c.rounded_off.ensures num den t)
