@@ -2,7 +2,10 @@ use Rattle.std.proofs.Common.{◌∙◌, ◌≡◌, ap, sym, refl, subst, arith,
 use Rattle.std.proofs.lemmas.Result.{err_from_is_err_and}
 use Rattle.std.specs.Float.{binary64}
 use Rattle.std.specs.Float.Ieee.{to_bits}
-use Rattle.error.specs.Refusal.{Told, good, bad, told, told_result}
+use Rattle.std.proofs.Math.Nat.{min-eq_left}
+use Prim.Native.Nat.{◌+◌}
+use Rattle.scalars.specs.Answer.{number_of}
+use Rattle.error.specs.Refusal.{Told, good, bad, told, told_result, refusal}
 use Rattle.error.specs.declared.Fault.{Fault}
 use Rattle.statement.specs.Rows.{told_row, header_row_of}
 use Rattle.statement.specs.declared.Range.{Range}
@@ -24,9 +27,11 @@ returns-in_err-list c = let a = c.args in
     rw (p.1, p.2) (refs_uncut a.file.now a.args.start a.args.end (c.in_err-list.ensures.result_value ∙ ap (λ (v : State). param_of a.file.now v.place v.end) c.reader-at.ensures))
 
 pub returns-in-Err : goal.returns-in-Err
-returns-in-Err c = let a = c.args in
+returns-in-Err c = let a = c.args in let (u, v) = c.in_ok-list.ensures.next_param_in in
+    let w = bytes_between_length a.file.now c.in_ok-list.list.start c.in_ok-list.list.stop u v in
+    let l : c.in_ok-list.list.start + c.in-Err.bad.place ≤ 18446744073709551615 = omega (arith, u, v, w, c.in-Err.ensures.counted_in) in
     refs_bad a.file.now a.args.start a.args.end c.in_ok-list.list.start c.in_ok-list.list.stop _ _ (c.in_ok-list.ensures.result_value ∙ ap (λ (v : State). param_of a.file.now v.place v.end) c.reader-at.ensures) c.in-Err.ensures.result_value
-    ∙ ap bad (sym c.fault.ensures)
+    ∙ ap bad (ap (refusal (number_of c.in-Err.bad.why) 0) (sym (min-eq_left l)) ∙ sym c.fault.ensures)
 
 pub returns-then-count-eq0 : goal.returns-then-count-eq0
 returns-then-count-eq0 c = let a = c.args in
