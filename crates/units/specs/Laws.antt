@@ -14,7 +14,7 @@ use Rattle.std.proofs.Math.ListN.{length}
 use Rattle.common.specs.Pick.{pick}
 use Rattle.common.specs.Compare.{clash}
 use Rattle.common.specs.Tests.{bounds}
-use Rattle.error.specs.Refusal.{Refusal, refusal, Told, good, bad, told}
+use Rattle.error.specs.Refusal.{Refusal, refusal, Told, good, bad}
 use Rattle.error.specs.declared.Fault.{Fault}
 use Rattle.nearest.specs.Near.{near, near_units}
 use Rattle.table.specs.Table.{table_rows, row_numbers}
