@@ -6,7 +6,9 @@ use Rattle.std.proofs.Math.Path.{ap}
 use Rattle.common.specs.Pick.{pick}
 use Rattle.common.specs.Compare.{clash}
 use Rattle.scan.specs.Laws.{unrolled}
-use Rattle.error.specs.Refusal.{Refusal, refusal, Told, good, bad}
+use Rattle.error.specs.Refusal.{Refusal, refusal, Told, good, bad, told}
+use Rattle.error.specs.declared.Fault.{Fault}
+use Rattle.error.specs.declared.Fault.TheVariants.{NoMarker, TooLong, OpenComment, OpenString, NoEnd, OpenParen, BadRecord, NoRow, OutOfFile, NoParameter, OpenLiteral, WrongType, OutsideClass, NoRecord, TooDeep, TooShort}
 use Rattle.statement.specs.Rows.{Row, HeaderRow, Stmt, reading_ends, statement_refused, section_now, header_statement, data_statement, mapped}
 use Rattle.statement.specs.Statement.{statement}
 use Rattle.statement.specs.declared.Section.{Section}
@@ -147,6 +149,25 @@ refused_number {A} {p} q e = let w : p ≡ q = cc in ap (λ (z : Refusal). z.num
 -- an answer is no refusal
 pub good_not_bad : {A : Type 0} {a : A} (q : Refusal) → ◌≡◌ {A = Told A} (good a) (bad q) → ⊥
 good_not_bad q e = clash (cc)
+
+-- a refusal other than that of a full table has another number
+pub number_other : (f : Fault) → ((p : ℕ) → f ≡ NoRow p → ⊥) → (told f).number ≡ 8 → ⊥
+number_other NoMarker n e = absurd (omega (arith, e))
+number_other TooLong n e = absurd (omega (arith, e))
+number_other (OpenComment p) n e = absurd (omega (arith, e))
+number_other (OpenString p) n e = absurd (omega (arith, e))
+number_other (NoEnd p) n e = absurd (omega (arith, e))
+number_other (OpenParen p) n e = absurd (omega (arith, e))
+number_other (BadRecord r p) n e = absurd (omega (arith, e))
+number_other (NoRow p) n e = n p refl
+number_other OutOfFile n e = absurd (omega (arith, e))
+number_other (NoParameter p) n e = absurd (omega (arith, e))
+number_other (OpenLiteral p) n e = absurd (omega (arith, e))
+number_other (WrongType p) n e = absurd (omega (arith, e))
+number_other (OutsideClass p) n e = absurd (omega (arith, e))
+number_other NoRecord n e = absurd (omega (arith, e))
+number_other (TooDeep p) n e = absurd (omega (arith, e))
+number_other (TooShort p) n e = absurd (omega (arith, e))
 
 -- what the scan refuses with nothing lent, it refuses with more, unless it is 8
 pub needs_refused : (s : List ℕ) (q : Refusal) → bad q ≡ mapped counts_of (scan_of s 0 0) → (q.number ≡ 8 → ⊥) → bad q ≡ needs_of s

@@ -1,7 +1,7 @@
 -- The unit answer: its four values, what a listed unit is for, and which record is a unit context.
 -- Assumes nothing.
 -- Definitions to be believed: no law, and nothing computed that no theorem ties (docs/BELIEVE.md).
-use Rattle.std.specs.Prelude.{ℕ, Bool, true, false, List, [], length, eqb, Option, Some, None, Result}
+use Rattle.std.specs.Prelude.{ℕ, Bool, true, false, List, [], eqb, Option, Some, None, Result}
 use Rattle.std.specs.Float.{binary64}
 use Rattle.std.specs.Float.Ieee.{to_bits}
 use Rattle.common.specs.Pick.{pick}

@@ -1,5 +1,5 @@
 -- What the code's answers say. Assumes nothing.
-use Rattle.std.specs.Prelude.{ℕ, zero, suc, ◌≤◌, ◌≡◌, Bool, true, false, List, [], ◌∷◌, length, Option, Some, None, Result, Ok, Err}
+use Rattle.std.specs.Prelude.{ℕ, zero, suc, ◌≤◌, ◌≡◌, Bool, true, List, [], ◌∷◌, length, Option, Some, None, Result, Ok, Err}
 use Rattle.common.specs.Pick.{pick}
 use Rattle.error.specs.Refusal.{Told, good, bad, told}
 use Rattle.error.specs.declared.Fault.{Fault}
@@ -14,8 +14,8 @@ use Rattle.params.specs.Answer.{span, onward}
 use Rattle.lists.specs.Answer.{fine, as_fate, values_of}
 use Rattle.lists.specs.Items.{items_from}
 use Rattle.lookup.specs.Lookup.{bytes_between, span_fine}
-use Rattle.factors.specs.SeenRecords.{same_kind, SeenRecord, seen_record_of}
-use Rattle.units.specs.Answer.{Units, units, defaults, is_context, refs_in}
+use Rattle.factors.specs.SeenRecords.{SeenRecord, seen_record_of}
+use Rattle.units.specs.Answer.{Units, defaults, is_context, refs_in}
 use Rattle.units.specs.Units.{context_of}
 
 -- a context's units; the default values for any other record

@@ -7,14 +7,14 @@ use Rattle.std.proofs.Math.Bool.{true, false}
 use Rattle.std.proofs.Math.Option.{none, some}
 use Rattle.std.specs.Option.{option_or}
 use Rattle.std.proofs.Math.Numerals.{add-one}
-use borrow.Author.Tests.{le-leb, lt-ltb, ltb-true}
+use borrow.Author.Tests.{le-leb, le-ltb, lt-ltb, ltb-true}
 use Rattle.std.specs.Float.{binary64}
 use Rattle.std.specs.Float.Ieee.{to_bits, of_bits, size}
 use Rattle.std.proofs.Math.ListN.{length}
 use Rattle.common.specs.Pick.{pick}
 use Rattle.common.specs.Compare.{clash}
 use Rattle.common.specs.Tests.{bounds}
-use Rattle.error.specs.Refusal.{Refusal, refusal, Told, good, bad, told}
+use Rattle.error.specs.Refusal.{Refusal, refusal, Told, good, bad}
 use Rattle.error.specs.declared.Fault.{Fault}
 use Rattle.nearest.specs.Near.{near, near_units}
 use Rattle.table.specs.Table.{table_rows, row_numbers}
@@ -560,6 +560,14 @@ module _ (s : List ℕ) (find : ℕ → Told (Option SeenRecord)) where
       most = omega arith;
       gives = ap (λ (n : ℕ). resolve_of s find (seen_records_from s (row_numbers rows) n 0)) m;
     }
+
+    -- a row of the table is given by its number
+    pub row_given : (k : ℕ) {w : Row} → k < table_rows rows records → w ≡ row_numbers rows k → Some w ≡ row_in rows records k
+    row_given k h e = rw (lt-ltb k (table_rows rows records) h) (ap Some e)
+
+    -- past the table no row is given
+    pub row_past : (k : ℕ) → table_rows rows records ≤ k → None ≡ row_in rows records k
+    row_past k h = rw (le-ltb k (table_rows rows records) h) refl
 
     -- a row that was given is one of the table
     pub row_there : (k : ℕ) {w : Row} → Some w ≡ row_in rows records k → (k < table_rows rows records) × (row_numbers rows k ≡ w)

@@ -8,7 +8,7 @@ use Rattle.std.specs.Float.Ieee.Bits.{of_bits-to_bits}
 use Rattle.error.specs.Refusal.{Told, good, bad}
 use Rattle.error.specs.Only.{fault_of, fault_of_told}
 use Rattle.error.specs.declared.Fault.{Fault}
-use Rattle.units.specs.Answer.{Units, values_in, told_units}
+use Rattle.units.specs.Answer.{Units, told_units}
 use Rattle.units.specs.declared.Values as ValuesCode
 
 -- the three numbers of a unit answer are f64s, as all values of that type are

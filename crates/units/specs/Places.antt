@@ -1,11 +1,11 @@
 -- "with a place from 0 to the input's length" (demand 1), for the unit answer: every refusal lies in the file, whatever the lent tables
 -- hold. Assumes nothing.
-use Prim.Native.Nat.{ℕ, zero, suc, ◌≤◌}
+use Prim.Native.Nat.{ℕ, zero, suc}
 use Rattle.std.specs.Prelude.{◌≡◌, refl, Bool, eqb, length, Option, Some, None}
 use Rattle.std.proofs.Math.Bool.{true, false}
 use mathlib.Core.List.{List, [], ◌∷◌}
 use Rattle.common.specs.Pick.{pick}
-use Rattle.error.specs.Refusal.{Refusal, Told, good, bad}
+use Rattle.error.specs.Refusal.{Told, good, bad}
 use Rattle.table.specs.Table.{row_numbers}
 use Rattle.lookup.specs.Lookup.{row_for}
 use Rattle.statement.specs.Rows.{Row}

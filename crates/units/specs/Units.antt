@@ -4,14 +4,12 @@ use Rattle.std.specs.Prelude.{ℕ, List, [], ◌∷◌, Option, Some, None}
 use Rattle.common.specs.Pick.{pick}
 use Rattle.error.specs.Refusal.{Told, good}
 use Rattle.nearest.specs.Near.{near}
-use Rattle.kinds.specs.declared.Kind.TheVariants.{GlobalUnitAssignedContext, GlobalUncertaintyAssignedContext, UncertaintyMeasureWithUnit}
+use Rattle.kinds.specs.declared.Kind.TheVariants.{GlobalUnitAssignedContext, GlobalUncertaintyAssignedContext}
 use Rattle.params.specs.Answer.{onward}
-use Rattle.scalars.specs.Scalars.{measure_of}
-use Rattle.scalars.specs.Answer.{next_of}
-use Rattle.factors.specs.SeenRecords.{good_by, same_kind, UnitPart, SeenRecord, self_or}
+use Rattle.factors.specs.SeenRecords.{good_by, UnitPart, SeenRecord, self_or}
 use Rattle.factors.specs.Factor.{length_of, angle_of}
 use Rattle.factors.specs.Unit.{option_by}
-use Rattle.units.specs.Answer.{Units, units, defaults, Role, length_role, angle_role, solid_role, role_by, with_length, with_angle, with_tolerance, is_read, is_context, refs_in, uncertainty_by}
+use Rattle.units.specs.Answer.{Units, defaults, Role, length_role, angle_role, solid_role, role_by, with_length, with_angle, with_tolerance, is_context, refs_in, uncertainty_by}
 
 -- "the role is a complex record's first part of LENGTH_UNIT, PLANE_ANGLE_UNIT and SOLID_ANGLE_UNIT"
 abbrev pub first_role : List UnitPart → Option Role

@@ -76,13 +76,11 @@ pub fn resolve(file: &[u8], rows: &[u32], slots: &[u64], t: Tables) -> Result<Va
         slots,
         tables: t,
     };
-    let mut k = 0;
-    while let Some(row) = lookup::entity(rows, t, k) {
-        let values = context_units(records, row)?;
+    for k in 0..table::table_rows(rows.len(), t.records) {
+        let values = context_units(records, table::read_row(rows, k))?;
         if values.resolved {
             return Ok(values);
         }
-        k += 1;
     }
     Ok(assumed())
 }

@@ -94,6 +94,8 @@ fn units_from(records: Records, b: &[u8]) -> Result<Values, Fault>
 {
     let mut u = assumed();
     let mut i = 0;
+    // Kept: where the next item begins is found with this one. One walk for this and `tolerance_from` would have to promise which
+    // references are left and that they grow fewer: more than the two loops say, which stop for different reasons.
     loop {
         let item = lists::item_at(b, i);
         let Some(id) = reals::parse_ref(&b[item.start..item.stop]) else {
@@ -138,6 +140,7 @@ fn tolerance_from(records: Records, b: &[u8]) -> Result<f64, Fault>
     ensures { mapped (to_bits binary64) (told_result result) ≡ tolerance_by records.entry.file.now (find_in records.entry) (ids_of b.now) }
 {
     let mut i = 0;
+    // Kept: where the next item begins is found with this one. Its twin is in `units_from`, where it is said why both stay.
     loop {
         let item = lists::item_at(b, i);
         let Some(id) = reals::parse_ref(&b[item.start..item.stop]) else {

@@ -49,6 +49,7 @@ fn role_from(file: &[u8], start: usize, end: usize) -> Result<Option<Role>, Faul
 {
     let mut i = start;
     let mut got = None;
+    // Kept: where the next part begins is found with this one, and a refusal leaves the loop by `?`; an iterator that hides that would be longer.
     while let Some(p) = parts::next_part(file, i, end)? {
         got = got.or(role_by(part_kind(file, p)));
         i = p.args.end + 1;

@@ -1,18 +1,11 @@
-use Rattle.std.proofs.Common.{◌∙◌, ◌≡◌, ap, sym, refl, subst, arith, ℕ, ◌≤◌, ◌-◌, length, Option, Some, None, option_map, Result, Ok, Err, Float, rules, eq-eqb, ne_eqb}
+use Rattle.std.proofs.Common.{◌∙◌, ap, sym, arith}
 use Rattle.std.proofs.lemmas.Result.{err_from_is_err_and}
-use Rattle.std.specs.Float.{binary64}
-use Rattle.std.specs.Float.Ieee.{to_bits}
-use Rattle.error.specs.Refusal.{Told, good, bad, told, told_result}
-use Rattle.error.specs.declared.Fault.{Fault}
-use Rattle.statement.specs.Rows.{told_row, header_row_of}
-use Rattle.statement.specs.declared.Range.{Range}
-use Rattle.params.specs.Answer.{Span, onward}
-use Rattle.kinds.specs.declared.Kind.{Kind}
-use Rattle.factors.specs.SeenRecords.{good_by, self_or, seen_record_of}
-use Rattle.factors.specs.Answer.{span_of}
+use Rattle.error.specs.Refusal.{good}
+use Rattle.statement.specs.Rows.{told_row}
+use Rattle.params.specs.Answer.{onward}
+use Rattle.factors.specs.SeenRecords.{self_or, seen_record_of}
 use Rattle.factors.specs.Code.{find_in}
-use Rattle.factors.specs.Laws.{find_none, find_row, seen_record_out}
-use Rattle.units.specs.Answer.{Units, defaults, values_in, told_units, refs_in}
+use Rattle.units.specs.Answer.{defaults, refs_in}
 use Rattle.units.specs.Units.{units_by}
 use Rattle.kinds.specs.declared.Kind.TheVariants.{GlobalUnitAssignedContext}
 use Rattle.units.specs.Laws.{refs_nothing, refs_inside, units_none, listed_units_is}

@@ -1,7 +1,6 @@
 use Prim.Native.Nat.{◌-◌}
 use lib.ListN.{length}
 use Rattle.factors.specs.Code.{find_in}
-use Rattle.units.specs.Answer.{defaults, values_in}
 use Rattle.units.specs.Units.{tolerance_by}
 use Rattle.units.specs.Code.{ids_of}
 use Rattle.units.specs.Laws.{RefsReading}
