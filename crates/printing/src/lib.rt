@@ -5,14 +5,8 @@
 // contract can say what a system call writes, so the contracts say what the buffer holds.
 #![tactic(auto)]
 
-mod digits;
-mod patterns;
-mod refusal;
-
 ghost use Rattle.std.specs.Prelude.{◌≡◌, ◌<◌, [], ◌∷◌, length};
 ghost use Rattle.printing.specs.Put.{Put, PutNumber};
-
-pub use patterns::{Line, form};
 
 #[derive(Clone, Copy)]
 pub struct Pen {
