@@ -43,7 +43,12 @@ pub fn header_row(file: &[u8], heads: &[u32], t: Tables, name: &[u8]) -> Option<
 }
 
 // The arguments of the first header record with this keyword; none where there is no such record; 9 where they lie outside the file.
-pub fn header_args(file: &[u8], heads: &[u32], t: Tables, name: &[u8]) -> Result<Option<Range>, Fault>
+pub fn header_args(
+    file: &[u8],
+    heads: &[u32],
+    t: Tables,
+    name: &[u8],
+) -> Result<Option<Range>, Fault>
     ensures { told_result result ≡ args_found file.now heads.now t.headers name.now }
 {
     let Some(k) = header_row(file, heads, t, name) else {
