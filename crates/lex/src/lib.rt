@@ -2,7 +2,8 @@
 //
 // As the first half of the Rust's scan.rs. All searches pass a comment at one go; those for a `;` and a `)` a string too, and plain bytes by
 // blocks where there are many. Where a string and a comment end is sought by `text_end` and `comment_end`, for the argument reader too.
-// No search has a `requires`: a start past the file's end counts as the end. `pass_blocks`, the walk below three of them, has one.
+// No search has a `requires`: a start past the file's end counts as the end, and so it does for `pass_blocks`, the walk below three of them, which
+// asks only that its step answers.
 #![tactic(auto)]
 
 ghost use Rattle.std.specs.Prelude.{◌≡◌, ℕ, ◌+◌, ◌≤◌, ◌<◌, ◌^◌, min, true, false, ◌||◌, length, drop, IfSome};
@@ -54,21 +55,21 @@ pub fn pass_blocks<T: Copy, F: Fn(usize, T) -> Option<T>>(
     first: T,
     step: F,
 ) -> (usize, T)
-    requires inside { from ≤ length s.now }
     requires ready { (i : ℕ) (t : T) → i + 64 ≤ length s.now → F.pre step i t }
-    ensures bounds { (from ≤ result.0) × (result.0 ≤ length s.now) }
-    ensures passed { BlocksPassed (λ i t u. (i + 64 ≤ length s.now) × F.post step i t (Some u)) from first result.0 result.1 }
+    ensures bounds { (min from (length s.now) ≤ result.0) × (result.0 ≤ length s.now) }
+    ensures passed { BlocksPassed (λ i t u. (i + 64 ≤ length s.now) × F.post step i t (Some u)) (min from (length s.now)) first result.0 result.1 }
 {
-    let blocks = (s.len() - from) / 64;
+    let start = from.min(s.len());
+    let blocks = (s.len() - start) / 64;
     let mut state = first;
     for k in 0..blocks {
-        let at = from + 64 * k;
+        let at = start + 64 * k;
         let Some(next) = step(at, state) else {
             return (at, state);
         };
         state = next;
     }
-    (from + 64 * blocks, state)
+    (start + 64 * blocks, state)
 }
 
 // Past the bytes that are not b, from `from` on and before `end`.

@@ -4,7 +4,7 @@
 // from a place in a section; whether there is a row left for it is for the scan to say.
 #![tactic(auto)]
 
-ghost use Rattle.std.specs.Prelude.{◌≡◌, true, false, ◌+◌, ◌-◌, ◌^◌, ◌≤◌, ◌<◌, eqb, length, take, drop, get_or, ℕ, option_map};
+ghost use Rattle.std.specs.Prelude.{◌≡◌, true, false, ◌+◌, ◌-◌, ◌^◌, ◌≤◌, ◌<◌, eqb, length, take, drop, get_or, min, ℕ, option_map};
 ghost use Rattle.lex.specs.Byte.{white};
 ghost use Rattle.lex.specs.Search.{trivia};
 ghost use Rattle.lex.specs.Answer.{at, placed};
@@ -108,20 +108,21 @@ fn row_at(start: usize, head: Head, args: Range) -> RecordSpan
 }
 
 // A keyword and its arguments, by the head of a text that starts at `start`: the arguments run up to the `)` that closes the head's `(`, which is
-// sought through the whole file. A header record is such a text, and a part of a complex record.
+// sought through the whole file. A header record is such a text, and a part of a complex record. A place past the greatest number counts as that
+// one.
 pub fn keyed_at(s: &[u8], start: usize, head: Named) -> Result<HeaderSpan, Fault>
-    requires { (start + head.start ≤ length s.now) × (start + head.end ≤ length s.now) × (start + head.opening < length s.now) }
-    ensures { told_header_read result ≡ argued s.now (drop (start + head.opening) s.now) (λ q. header_row (start + head.start) (start + head.end) (start + head.opening + 1) q) }
+    ensures { told_header_read result ≡ argued s.now (drop (min (start + head.opening) 18446744073709551615) s.now)
+        (λ q. header_row (min (start + head.start) 18446744073709551615) (min (start + head.end) 18446744073709551615) (min (min (start + head.opening) 18446744073709551615 + 1) 18446744073709551615) q) }
 {
-    let opening = start + head.opening;
+    let opening = start.saturating_add(head.opening);
     let close = lex::matching_paren(s, opening)?;
     Ok(HeaderSpan {
         keyword: Range {
-            start: start + head.start,
-            end: start + head.end,
+            start: start.saturating_add(head.start),
+            end: start.saturating_add(head.end),
         },
         args: Range {
-            start: opening + 1,
+            start: opening.saturating_add(1),
             end: close,
         },
     })

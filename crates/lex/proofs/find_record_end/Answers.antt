@@ -9,9 +9,10 @@ use Rattle.lex.specs.Place.{place_drop}
 use Rattle.error.specs.Refusal.{good, bad, refusal}
 use Rattle.lex.specs.declared.Mode.TheVariants.{Plain}
 use borrow.Author.Tests.{eq-eqb, ne_eqb}
-use lib.ListN.{drop}
+use lib.ListN.{drop, length}
 use mathlib.Core.Path.{refl, sym, ◌∙◌, ap}
-use Prim.Native.Nat.{ℕ}
+use Rattle.std.proofs.Math.Nat.{min-eq_left}
+use Prim.Native.Nat.{ℕ, ◌≤◌}
 use native.Mathlib.Omega.{arith}
 use Rattle.std.proofs.lemmas.Result.{err_from_is_err_and}
 use Rattle.lex.proofs.find_record_end.Goals as goal
@@ -25,12 +26,14 @@ loop-i-init c = let s = c.args.s.now in
     (omega (arith, c.min-from.ensures), ap record_end (ap (λ (k : ℕ). drop k s) c.min-from.ensures ∙ drop_within s c.args.start))
 
 pub loop-i-smaller-then-near-i : goal.loop-i-smaller-then-near-i
-loop-i-smaller-then-near-i c = let l = c.loop-i in blocks_less _ l.i l.near c.pass_blocks-i.result.0 (omega arith) c.pass_blocks-i.ensures.bounds.0
+loop-i-smaller-then-near-i c = let l = c.loop-i in blocks_less _ l.i l.near c.pass_blocks-i.result.0 (omega arith) (omega (arith, c.pass_blocks-i.ensures.bounds))
 
 pub loop-i-preserved-then-near-i : goal.loop-i-preserved-then-near-i
 loop-i-preserved-then-near-i c = let l = c.loop-i in
     let s = c.args.s.now in
-    let q : Quiet s l.i c.pass_blocks-i.result.0 = blocks_keep (λ i d r e. Quiet s i r) (λ i d n w. refl) (λ i r d t u h p. let k : Quiet s r (r + 64) = search rules in λ n w. h n w ∙ k n w) c.pass_blocks-i.ensures.passed in
+    let h : l.i ≤ length s = omega arith in
+    let passed = rw (min-eq_left h) at c.pass_blocks-i.ensures.passed in
+    let q : Quiet s l.i c.pass_blocks-i.result.0 = blocks_keep (λ i d r e. Quiet s i r) (λ i d n w. refl) (λ i r d t u h p. let k : Quiet s r (r + 64) = search rules in λ n w. h n w ∙ k n w) passed in
     (omega (arith, c.pass_blocks-i.ensures.bounds), sym (q 5 (drop c.min-from.result s)) ∙ l.invariant.1)
 
 pub returns-then-s-i-eq59 : goal.returns-then-s-i-eq59

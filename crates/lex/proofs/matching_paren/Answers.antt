@@ -11,8 +11,9 @@ use Rattle.lex.specs.Place.{place_drop}
 use Rattle.error.specs.Refusal.{good, bad, refusal}
 use Rattle.lex.specs.declared.Mode.TheVariants.{Plain}
 use lib.Seq.{drop-drop}
-use lib.ListN.{drop, get_or}
+use lib.ListN.{drop, get_or, length}
 use mathlib.Core.Path.{◌≡◌, refl, sym, ◌∙◌, ap}
+use Rattle.std.proofs.Math.Nat.{min-eq_left}
 use Prim.Native.Nat.{ℕ, ◌+◌}
 use native.Mathlib.Omega.{arith}
 use Rattle.std.proofs.lemmas.Result.{err_from_is_err_and}
@@ -47,13 +48,15 @@ pub overflow_add-near-then-near-i : goal.overflow_add-near-then-near-i
 overflow_add-near-then-near-i c = omega (arith, c.pass_blocks.ensures.bounds)
 
 pub loop-i-smaller-then-near-i : goal.loop-i-smaller-then-near-i
-loop-i-smaller-then-near-i c = let l = c.loop-i in blocks_less _ l.i l.near c.pass_blocks.result.0 (omega arith) c.pass_blocks.ensures.bounds.0
+loop-i-smaller-then-near-i c = let l = c.loop-i in blocks_less _ l.i l.near c.pass_blocks.result.0 (omega arith) (omega (arith, c.pass_blocks.ensures.bounds))
 
 pub loop-i-preserved-then-near-i : goal.loop-i-preserved-then-near-i
 loop-i-preserved-then-near-i c = let l = c.loop-i in
     let s = c.args.s.now in
+    let b : l.i ≤ length s = omega arith in
+    let passed = rw (min-eq_left b) at c.pass_blocks.ensures.passed in
     let q : Calm s l.i l.depth c.pass_blocks.result.0 c.pass_blocks.result.1 =
-    blocks_keep (Calm s) (λ i d. (λ h. h, λ n w. refl)) (λ i r d t u h p. let k : Calm s r t (r + 64) u = search (rules, calm_block) in (λ m. k.0 (h.0 m), λ n w. h.1 n w ∙ k.1 n w)) c.pass_blocks.ensures.passed in
+    blocks_keep (Calm s) (λ i d. (λ h. h, λ n w. refl)) (λ i r d t u h p. let k : Calm s r t (r + 64) u = search (rules, calm_block) in (λ m. k.0 (h.0 m), λ n w. h.1 n w ∙ k.1 n w)) passed in
     ((c.pass_blocks.ensures.bounds.1, q.0 (omega arith)), sym (q.1 6 (drop c.min-from.result s)) ∙ l.invariant.1)
 
 pub returns-in_default : goal.returns-in_default

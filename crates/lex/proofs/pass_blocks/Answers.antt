@@ -1,19 +1,19 @@
 use Rattle.lex.specs.Blocks.{BlocksPassed}
-use Rattle.std.proofs.Common.{◌≡◌, ◌+◌, ◌*◌, ◌-◌, ◌/◌, length, arith}
+use Rattle.std.proofs.Common.{◌≡◌, ◌+◌, ◌*◌, ◌-◌, ◌/◌, min, length, arith, sym}
 use Rattle.lex.proofs.pass_blocks.Goals as goal
 
 pub loop-k-init : goal.loop-k-init
-loop-k-init g c = let e : c.args.from + 64 * 0 ≡ c.args.from = omega arith in rw e BlocksPassed.none
+loop-k-init g c = let e : c.min-start.result + 64 * 0 ≡ c.min-start.result = omega arith in rw e BlocksPassed.none
 
 pub returns-in_default-clause-passed : goal.returns-in_default-clause-passed
-returns-in_default-clause-passed g c = c.loop-k.invariant
+returns-in_default-clause-passed g c = rw (sym c.min-start.ensures) c.loop-k.invariant
 
 pub loop-k-preserved : goal.loop-k-preserved
 loop-k-preserved g c =
-    let e : c.args.from + 64 * (c.loop-k.k + 1) ≡ c.args.from + 64 * c.loop-k.k + 64 = omega arith in
+    let e : c.min-start.result + 64 * (c.loop-k.k + 1) ≡ c.min-start.result + 64 * c.loop-k.k + 64 = omega arith in
     rw e (BlocksPassed.more c.loop-k.invariant (omega arith, c.in-Some.ensures))
 
 pub returns-clause-passed : goal.returns-clause-passed
 returns-clause-passed g c =
-    let e : c.loop-k.k ≡ (length c.args.s.now - c.args.from) / 64 = omega arith in
-    rw (← e) c.loop-k.invariant
+    let e : c.loop-k.k ≡ (length c.args.s.now - c.min-start.result) / 64 = omega arith in
+    rw (sym c.min-start.ensures, ← e) c.loop-k.invariant

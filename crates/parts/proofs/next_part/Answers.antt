@@ -1,10 +1,11 @@
 use Rattle.std.proofs.Common.{rules, ◌≡◌, sym, ◌∙◌, ap, Err}
+use Rattle.std.proofs.Math.Nat.{min-eq_left}
 use Rattle.std.proofs.Math.Option.{some}
 use Rattle.lex.specs.Search.{closing}
 use Rattle.lex.specs.Answer.{placed}
 use Rattle.statement.specs.Rows.{mapped, header_row}
 use native.Mathlib.Omega.{arith}
-use Prim.Native.Nat.{◌+◌, ◌-◌}
+use Prim.Native.Nat.{◌+◌, ◌-◌, ◌≤◌}
 use lib.ListN.{length, take, drop, length-take, length-drop}
 use Rattle.parts.specs.Part.{part_by}
 use Rattle.parts.specs.Laws.{next_outside, next_done, next_by_lem, head_places, mapped_some}
@@ -16,16 +17,6 @@ returns-then-s-end c = next_outside c.args.s.now c.args.at c.args.end c.if-s-end
 pub returns-then-end-at : goal.returns-then-end-at
 returns-then-end-at c = next_done c.args.s.now c.args.at c.args.end c.if-s-end.false c.if-end-at.true
 
-pub keyed_at-requires : goal.keyed_at-requires
-keyed_at-requires c =
-    let b = c.args in
-    let m = take (b.end - b.at) (drop b.at b.s.now) in
-    let l : length m ≡ b.end - b.at = simp (length-take, length-drop) (omega arith) in
-    let a = c.leading-a.result in
-    let t : length (take (length m - a) (drop a m)) ≡ length m - a = simp (length-take, length-drop) (omega arith) in
-    let (p, q, r) = head_places (take (length m - a) (drop a m)) c.in-Ok.head (sym c.in-Ok.ensures) in
-    (omega arith, omega arith, omega arith)
-
 pub returns-in-Err : goal.returns-in-Err
 returns-in-Err c = sym (next_by_lem c.args.s.now c.args.at c.args.end c.leading-a.result (omega arith) c.leading-a.ensures.t_value c.leading-a.ensures.upper_bound ∙ ap (part_by c.args.s.now (c.args.at + c.leading-a.result)) (sym c.in-Err.ensures))
 
@@ -34,7 +25,18 @@ returns-in_ok-keyed_at-in-Ok c =
     let s = c.args.s.now in
     let x = c.args.at + c.leading-a.result in
     let h = c.in-Ok.head in
-    ap (mapped some) c.in_ok-keyed_at-in-Ok.ensures
+    let b = c.args in
+    let m = take (b.end - b.at) (drop b.at b.s.now) in
+    let l : length m ≡ b.end - b.at = simp (length-take, length-drop) (omega arith) in
+    let a = c.leading-a.result in
+    let t : length (take (length m - a) (drop a m)) ≡ length m - a = simp (length-take, length-drop) (omega arith) in
+    let (p, q, r) = head_places (take (length m - a) (drop a m)) c.in-Ok.head (sym c.in-Ok.ensures) in
+    let x1 : x + h.start ≤ 18446744073709551615 = omega arith in
+    let x2 : x + h.end ≤ 18446744073709551615 = omega arith in
+    let x3 : x + h.opening ≤ 18446744073709551615 = omega arith in
+    let x4 : x + h.opening + 1 ≤ 18446744073709551615 = omega arith in
+    let known = rw (min-eq_left x1, min-eq_left x2, min-eq_left x3, min-eq_left x4) at c.in_ok-keyed_at-in-Ok.ensures in
+    ap (mapped some) known
     ∙ mapped_some (λ q. header_row (x + h.start) (x + h.end) (x + h.opening + 1) q) (placed s (closing (drop (x + h.opening) s)))
     ∙ sym (next_by_lem s c.args.at c.args.end c.leading-a.result (omega arith) c.leading-a.ensures.t_value c.leading-a.ensures.upper_bound ∙ ap (part_by s x) (sym c.in-Ok.ensures))
 
@@ -43,7 +45,18 @@ returns-in_err-keyed_at-in-Ok c =
     let s = c.args.s.now in
     let x = c.args.at + c.leading-a.result in
     let h = c.in-Ok.head in
+    let b = c.args in
+    let m = take (b.end - b.at) (drop b.at b.s.now) in
+    let l : length m ≡ b.end - b.at = simp (length-take, length-drop) (omega arith) in
+    let a = c.leading-a.result in
+    let t : length (take (length m - a) (drop a m)) ≡ length m - a = simp (length-take, length-drop) (omega arith) in
+    let (p, q, r) = head_places (take (length m - a) (drop a m)) c.in-Ok.head (sym c.in-Ok.ensures) in
+    let x1 : x + h.start ≤ 18446744073709551615 = omega arith in
+    let x2 : x + h.end ≤ 18446744073709551615 = omega arith in
+    let x3 : x + h.opening ≤ 18446744073709551615 = omega arith in
+    let x4 : x + h.opening + 1 ≤ 18446744073709551615 = omega arith in
+    let known = rw (min-eq_left x1, min-eq_left x2, min-eq_left x3, min-eq_left x4) at c.in_err-keyed_at-in-Ok.ensures in
     let k : c.from_residual.result ≡ Err c.in_err-keyed_at-in-Ok.field-0.0 = search rules in
-    rw k (ap (mapped some) c.in_err-keyed_at-in-Ok.ensures
+    rw k (ap (mapped some) known
     ∙ mapped_some (λ q. header_row (x + h.start) (x + h.end) (x + h.opening + 1) q) (placed s (closing (drop (x + h.opening) s)))
     ∙ sym (next_by_lem s c.args.at c.args.end c.leading-a.result (omega arith) c.leading-a.ensures.t_value c.leading-a.ensures.upper_bound ∙ ap (part_by s x) (sym c.in-Ok.ensures)))
