@@ -1,5 +1,5 @@
 // How parts of a file and refusals are shown.
-use error::{Fault, Reason};
+use error::Fault;
 use input::Refusal;
 use line_column::LineColumn;
 use std::io::Write;
@@ -53,16 +53,17 @@ pub fn words(f: Fault) -> &'static str {
     }
 }
 
-// Why a record is bad.
-fn reason_words(why: Reason) -> &'static str {
+// Why a record is bad, by its reason's number, of which a fault holds any; 1 to 7 are those of `Reason`.
+fn reason_words(why: u8) -> &'static str {
     match why {
-        Reason::NoHeaderParen => "bad record: header record without (",
-        Reason::NoHash => "bad record: no #",
-        Reason::LargeId => "bad record: id above 4294967295",
-        Reason::NoDigits => "bad record: no digits",
-        Reason::NoEqual => "bad record: no =",
-        Reason::NoValue => "bad record: nothing after =",
-        Reason::NoParen => "bad record: no (",
+        1 => "bad record: header record without (",
+        2 => "bad record: no #",
+        3 => "bad record: id above 4294967295",
+        4 => "bad record: no digits",
+        5 => "bad record: no =",
+        6 => "bad record: nothing after =",
+        7 => "bad record: no (",
+        _ => "bad record",
     }
 }
 

@@ -58,7 +58,7 @@ lines =
     ∷ refusal_line 4 (λ r p. OpenString p)
     ∷ refusal_line 5 (λ r p. NoEnd p)
     ∷ refusal_line 6 (λ r p. OpenParen p)
-    ∷ refusal_line 7 (λ r p. BadRecord (reason_of r) p)
+    ∷ refusal_line 7 (λ r p. BadRecord r p)
     ∷ refusal_line 8 (λ r p. NoRow p)
     ∷ refusal_line 9 (λ r p. OutOfFile)
     ∷ refusal_line 10 (λ r p. NoParameter p)
@@ -88,7 +88,7 @@ fault_of_told (OpenComment p) = refl
 fault_of_told (OpenString p) = refl
 fault_of_told (NoEnd p) = refl
 fault_of_told (OpenParen p) = refl
-fault_of_told (BadRecord r p) = ap (λ q. BadRecord q p) (reason_of_told r)
+fault_of_told (BadRecord r p) = refl
 fault_of_told (NoRow p) = refl
 fault_of_told OutOfFile = refl
 fault_of_told (NoParameter p) = refl

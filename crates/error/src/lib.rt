@@ -57,8 +57,8 @@ pub enum Fault {
     NoEnd(usize),
     // 6: parenthesis open, at its `(`.
     OpenParen(usize),
-    // 7: bad record, with its reason, at its start.
-    BadRecord(Reason, usize),
+    // 7: bad record, with its reason's number, at its start.
+    BadRecord(u8, usize),
     // 8: no row left, at the record's start.
     NoRow(usize),
     // 9: span or kept row outside the file or backwards; left-over bytes or a bad mark in kept rows.
@@ -109,7 +109,7 @@ impl Fault {
         ensures { result ≡ (told self).reason }
     {
         match self {
-            Fault::BadRecord(why, _) => why.number(),
+            Fault::BadRecord(why, _) => why,
             _ => 0,
         }
     }

@@ -145,7 +145,7 @@ impl<'a> Record<'a> {
     {
         let head = match record::data_head(&self.file[self.start..self.end]) {
             Ok(head) => head,
-            Err(why) => return Err(Fault::BadRecord(why, self.start)),
+            Err(why) => return Err(Fault::BadRecord(why.number(), self.start)),
         };
         let opening = self.start + opening_of(head);
         let close = lex::matching_paren(self.file, opening)?;
@@ -163,7 +163,7 @@ impl<'a> Record<'a> {
     {
         match record::header_head(&self.file[self.start..self.end]) {
             Ok(head) => keyed_at(self.file, self.start, head),
-            Err(why) => Err(Fault::BadRecord(why, self.start)),
+            Err(why) => Err(Fault::BadRecord(why.number(), self.start)),
         }
     }
 
