@@ -5,7 +5,7 @@
 // more than the longest case that it takes.
 #![tactic(auto)]
 
-use input::{Feed, Source};
+use input::{ChunkReader, Source};
 use std::io::Read;
 use std::rt::{Env, Files};
 
@@ -57,7 +57,7 @@ pub fn replays<R: Env>(rt: &R) -> bool {
 // Takes the case of this number, which is the next one.
 pub fn take<R: Env + Files + Input + Eprint + Alloc, F: Read>(
     rt: &R,
-    feed: &mut Feed<'_, F>,
+    feed: &mut ChunkReader<'_, F>,
     file: &mut [u8],
     number: usize,
 ) -> Taken {
@@ -68,7 +68,7 @@ pub fn take<R: Env + Files + Input + Eprint + Alloc, F: Read>(
 }
 
 // Takes the next case of standard input. One for which there is no room is passed.
-fn follow<F: Read>(feed: &mut Feed<'_, F>, file: &mut [u8]) -> Taken {
+fn follow<F: Read>(feed: &mut ChunkReader<'_, F>, file: &mut [u8]) -> Taken {
     let size = match feed.number_line() {
         Ok(Some(n)) => n,
         Ok(None) => return Taken::Over,

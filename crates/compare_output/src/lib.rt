@@ -3,7 +3,7 @@
 
 use compare_input::Taken;
 use compare_lines::Opened;
-use input::{CHUNK, Feed, Output, Refusal, Sizes, TableRooms, ValueRooms, ValueSizes};
+use input::{CHUNK, ChunkReader, Output, Refusal, Sizes, TableRooms, ValueRooms, ValueSizes};
 use lookup::Tables;
 use std::alloc::AllocError;
 use std::io;
@@ -43,7 +43,7 @@ pub fn run<R: Env + Files + Input + Print + Eprint + AllocGlobal, C: Course>(
     let mut file = input::room(rt.alloc(), 0, n.file)?;
     let mut tables = TableRooms::new(rt.alloc(), n)?;
     let mut v = ValueRooms::new(rt.alloc(), values)?;
-    let mut feed = Feed::new(rt.reader(), chunk.as_mut_slice());
+    let mut feed = ChunkReader::new(rt.reader(), chunk.as_mut_slice());
     let mut out = Output::new(rt, buffer.as_mut_slice());
     for number in 0..usize::MAX {
         let got = compare_input::take(rt, &mut feed, file.as_mut_slice(), number);
@@ -128,7 +128,7 @@ fn put_cut<W: Write>(count: usize, size: usize, out: &mut W) -> io::Result<()> {
 // Where standard input could not be read, says so.
 fn put_failure<R: Eprint + Alloc, F: Read, W: Write>(
     rt: &R,
-    feed: &Feed<'_, F>,
+    feed: &ChunkReader<'_, F>,
     out: &mut W,
 ) -> io::Result<()> {
     match feed.failed() {

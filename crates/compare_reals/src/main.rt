@@ -5,7 +5,7 @@
 // A line is all bytes up to an LF, blanks included; the last one may lack its LF. A line of more than 4,096 bytes is not read.
 #![tactic(auto)]
 
-use input::{CHUNK, Feed, Output};
+use input::{CHUNK, ChunkReader, Output};
 use reals::{NotRead, Reals};
 use std::io::{Read, Write};
 use std::{fmt, io};
@@ -13,7 +13,7 @@ use std::{fmt, io};
 fn main(rt: HostRuntime) {
     let mut chunk = [0u8; CHUNK];
     let mut buffer = [0u8; CHUNK];
-    let mut feed = Feed::new(rt.stdin(), &mut chunk);
+    let mut feed = ChunkReader::new(rt.stdin(), &mut chunk);
     let mut out = Output::new(&rt, &mut buffer);
     // nothing ends where it cannot be written: the output tells of that at the end
     let _ = put_answers(&rt, &mut feed, &mut out);
@@ -23,7 +23,7 @@ fn main(rt: HostRuntime) {
 // Answers the lines: all of them, or as many as 64 bits count.
 fn put_answers<R: Eprint + Alloc, F: Read, W: Write>(
     rt: &R,
-    feed: &mut Feed<'_, F>,
+    feed: &mut ChunkReader<'_, F>,
     out: &mut W,
 ) -> io::Result<()> {
     let mut line = [0u8; 4096];

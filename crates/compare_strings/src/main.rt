@@ -9,14 +9,14 @@
 mod answer;
 mod asked;
 
-use input::{CHUNK, Feed, Output};
+use input::{CHUNK, ChunkReader, Output};
 use std::io;
 use std::io::{Read, Write};
 
 fn main(rt: HostRuntime) {
     let mut chunk = [0u8; CHUNK];
     let mut buffer = [0u8; CHUNK];
-    let mut feed = Feed::new(rt.stdin(), &mut chunk);
+    let mut feed = ChunkReader::new(rt.stdin(), &mut chunk);
     let mut out = Output::new(&rt, &mut buffer);
     // nothing ends where it cannot be written: the output tells of that at the end
     let _ = answers(&rt, &mut feed, &mut out);
@@ -26,7 +26,7 @@ fn main(rt: HostRuntime) {
 // Answers the lines: all of them, or as many as 64 bits count.
 fn answers<R: Eprint + Alloc, F: Read, W: Write>(
     rt: &R,
-    feed: &mut Feed<'_, F>,
+    feed: &mut ChunkReader<'_, F>,
     out: &mut W,
 ) -> io::Result<()> {
     let mut line = [0u8; 65536];

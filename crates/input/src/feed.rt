@@ -5,16 +5,21 @@ ghost use Rattle.io.specs.Counts.{IsPrefixLen};
 use crate::number_of;
 use std::io::Read;
 
+// How far a chunk is used. Its bytes from `at` up to `end` were read and are not used yet.
+#[derive(Clone, Copy)]
+pub struct Feed {
+    pub at: usize,
+    pub end: usize,
+    // Where the last read failed: the system's number of that, and 0 where it has none.
+    pub failed: Option<i32>,
+}
+
 // Kept: the library's BufReader holds its chunk on the heap, where making it may fail; this one is lent to programs that fail nowhere.
 #[derive(Drop)]
-pub struct Feed<'a, R> {
+pub struct ChunkReader<'a, R> {
     from: R,
     chunk: &'a mut [u8],
-    // The bytes of the chunk from `at` up to `end` were read and are not used yet.
-    at: usize,
-    end: usize,
-    // Where the last read failed: the system's number of that, and 0 where it has none.
-    failed: Option<i32>,
+    feed: Feed,
 }
 
 // What stood behind the bytes that were passed.
@@ -39,46 +44,48 @@ struct Passed {
 #[derive(Clone, Copy)]
 pub struct NoNumber;
 
-impl<'a, R: Read> Feed<'a, R> {
-    // A feed of which nothing was read yet.
-    pub fn new(from: R, chunk: &'a mut [u8]) -> Feed<'a, R> {
-        Feed {
+impl<'a, R: Read> ChunkReader<'a, R> {
+    // A reader of which nothing was read yet.
+    pub fn new(from: R, chunk: &'a mut [u8]) -> ChunkReader<'a, R> {
+        ChunkReader {
             from,
             chunk,
-            at: 0,
-            end: 0,
-            failed: None,
+            feed: Feed {
+                at: 0,
+                end: 0,
+                failed: None,
+            },
         }
     }
 
     // Where the last read failed, the system's number of that.
     pub fn failed(&self) -> Option<i32> {
-        self.failed
+        self.feed.failed
     }
 
     // The next byte; none at the input's end, and where a read fails. Where all of the chunk is used, more is read.
     fn next_byte(&mut self) -> Option<u8> {
-        if self.at >= self.end {
+        if self.feed.at >= self.feed.end {
             self.refill();
         }
-        if self.at >= self.end {
+        if self.feed.at >= self.feed.end {
             return None;
         }
-        let at = self.at;
-        self.at = at + 1;
+        let at = self.feed.at;
+        self.feed.at = at + 1;
         self.chunk.get(at).copied()
     }
 
     fn refill(&mut self) {
-        self.at = 0;
+        self.feed.at = 0;
         match self.from.read(self.chunk) {
             Ok(n) => {
-                self.end = n;
-                self.failed = None;
+                self.feed.end = n;
+                self.feed.failed = None;
             }
             Err(e) => {
-                self.end = 0;
-                self.failed = Some(number_of(&e));
+                self.feed.end = 0;
+                self.feed.failed = Some(number_of(&e));
             }
         }
     }
@@ -114,7 +121,7 @@ impl<'a, R: Read> Feed<'a, R> {
     // may lack its LF. An error is the system's number of a read that failed.
     pub fn line(&mut self, room: &mut [u8]) -> Result<Option<usize>, i32> {
         let got = self.pass(usize::MAX, Some(b'\n'), room);
-        if let Some(error) = self.failed {
+        if let Some(error) = self.feed.failed {
             return Err(error);
         }
         if got.stop == Stop::End && got.count == 0 {

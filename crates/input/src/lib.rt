@@ -11,7 +11,7 @@ mod source;
 
 ghost use Rattle.io.specs.Counts.{IsPrefixLen};
 
-pub use feed::{Feed, NoNumber};
+pub use feed::{ChunkReader, Feed, NoNumber};
 pub use limit::stack_limit;
 pub use output::Output;
 pub use shown::{Hex, Refusal};

@@ -114,7 +114,7 @@ fn put_record(out: &mut [u32], k: usize, span: RecordSpan, write: bool)
 
 // Where a run of records ended: the place, how many rows there are, and the largest id.
 #[derive(Clone, Copy)]
-struct RunEnd {
+pub struct RunEnd {
     pub place: usize,
     pub count: usize,
     pub max: u32,
