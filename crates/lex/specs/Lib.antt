@@ -4,6 +4,7 @@ pub mod Lexer
 pub mod ByteSearch
 pub mod Answer
 pub mod Blocks
+pub mod BlocksKept
 pub mod Search
 pub mod Seek
 pub mod Grammar

@@ -48,7 +48,8 @@ fn block_has(s: &[u8], at: usize, b: u8) -> bool
     hit
 }
 
-// Past the blocks of 64 bytes, from `from` on, that the step lets pass, with what it makes of a state; it is told where a block begins.
+// Past the blocks of 64 bytes, from `from` on, that the step lets pass, with what it makes of a state; it is told where a block begins. Where a
+// whole block is left, the step refuses it, so that the place and the state are one where the step's answer is (`blocks_only`).
 pub fn pass_blocks<T: Copy, F: Fn(usize, T) -> Option<T>>(
     s: &[u8],
     from: usize,
@@ -58,6 +59,7 @@ pub fn pass_blocks<T: Copy, F: Fn(usize, T) -> Option<T>>(
     requires ready { (i : ℕ) (t : T) → i + 64 ≤ length s.now → F.pre step i t }
     ensures bounds { (min from (length s.now) ≤ result.0) × (result.0 ≤ length s.now) }
     ensures passed { BlocksPassed (λ i t u. (i + 64 ≤ length s.now) × F.post step i t (Some u)) (min from (length s.now)) first result.0 result.1 }
+    ensures stopped { result.0 + 64 ≤ length s.now → F.post step result.0 result.1 None }
 {
     let start = from.min(s.len());
     let blocks = (s.len() - start) / 64;

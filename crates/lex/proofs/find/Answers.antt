@@ -1,4 +1,4 @@
-use Rattle.lex.specs.Blocks.{blocks_keep}
+use Rattle.lex.specs.BlocksKept.{blocks_keep}
 use Rattle.lex.specs.ByteSearch.{NoneBetween, lacks_none, lacks_on, stopped_near, stopped_far}
 use Rattle.lex.specs.Answer.{Lacks, Stopped}
 use Rattle.std.proofs.Common.{rules}

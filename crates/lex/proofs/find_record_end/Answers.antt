@@ -1,4 +1,4 @@
-use Rattle.lex.specs.Blocks.{blocks_keep}
+use Rattle.lex.specs.BlocksKept.{blocks_keep}
 use Rattle.lex.specs.PassedAtOnce.{Quiet, blocks_less, bytes_less}
 use Rattle.std.proofs.Common.{rules, ◌+◌}
 use Rattle.lex.specs.Seek.{drop_within, seek_halts_at}

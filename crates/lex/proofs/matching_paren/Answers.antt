@@ -1,4 +1,4 @@
-use Rattle.lex.specs.Blocks.{blocks_keep}
+use Rattle.lex.specs.BlocksKept.{blocks_keep}
 use Rattle.lex.specs.PassedAtOnce.{BlockCounted, blocks_less, bytes_less}
 use Rattle.lex.specs.Right.Steps.{plainly}
 use Rattle.lex.specs.declared.Tally.{Tally}

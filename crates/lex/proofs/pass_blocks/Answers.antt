@@ -1,5 +1,5 @@
 use Rattle.lex.specs.Blocks.{BlocksPassed}
-use Rattle.std.proofs.Common.{◌≡◌, ◌+◌, ◌*◌, ◌-◌, ◌/◌, min, length, arith, sym}
+use Rattle.std.proofs.Common.{◌≡◌, ◌+◌, ◌*◌, arith, sym, le_antisymm}
 use Rattle.lex.proofs.pass_blocks.Goals as goal
 
 pub loop-k-init : goal.loop-k-init
@@ -15,5 +15,4 @@ loop-k-preserved g c =
 
 pub returns-clause-passed : goal.returns-clause-passed
 returns-clause-passed g c =
-    let e : c.loop-k.k ≡ (length c.args.s.now - c.min-start.result) / 64 = omega arith in
-    rw (sym c.min-start.ensures, ← e) c.loop-k.invariant
+    let e = le_antisymm c.loop-k.auto.k-end c.loop-k-test.false in rw (sym c.min-start.ensures, ← e) c.loop-k.invariant

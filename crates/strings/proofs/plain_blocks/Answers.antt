@@ -1,6 +1,6 @@
 use Rattle.std.proofs.Common.{◌≡◌, ◌+◌, true, take, rules}
 use Rattle.std.proofs.Math.Nat.{min-eq_left}
-use Rattle.lex.specs.Blocks.{blocks_keep}
+use Rattle.lex.specs.BlocksKept.{blocks_keep}
 use Rattle.strings.specs.Text.{plain}
 use Rattle.strings.proofs.plain_blocks.Goals as goal
 
