@@ -102,13 +102,25 @@ fn slash_step(part: &[u8], s: Search) -> Search
     }
 }
 
-// Past the token that stands there, which is no comma at depth 0; or the quote of a literal that is open.
+// Past the token that stands there, which is no comma at depth 0; or the quote of a literal that is open. What lists are full of is asked first.
 fn past_token(part: &[u8], s: Search) -> Result<Search, usize>
     requires standing { Standing part.now s.at s.solid s.depth }
     requires uncut { get_or part.now s.at 0 ≡ 44 → s.depth ≡ 0 → ⊥ }
     ensures { ParamStep part.now s.at s.solid s.depth result }
 {
     let b = part[s.at];
+    let next = s.to(s.at + 1);
+    if b == b',' {
+        return Ok(next);
+    }
+    if b == b'(' {
+        let depth = s.depth + 1;
+        return Ok(Search { depth, ..next });
+    }
+    if b == b')' {
+        let depth = s.depth.saturating_sub(1);
+        return Ok(Search { depth, ..next });
+    }
     if b == b'\'' {
         return text_step(part, s);
     }
@@ -120,15 +132,6 @@ fn past_token(part: &[u8], s: Search) -> Result<Search, usize>
     }
     if lex::is_space(b) {
         return Ok(s.past(s.at + 1));
-    }
-    let next = s.to(s.at + 1);
-    if b == b'(' {
-        let depth = s.depth + 1;
-        return Ok(Search { depth, ..next });
-    }
-    if b == b')' {
-        let depth = s.depth.saturating_sub(1);
-        return Ok(Search { depth, ..next });
     }
     Ok(next)
 }
