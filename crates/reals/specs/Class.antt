@@ -64,8 +64,8 @@ module _ (f x X : ℕ) (b : x ≡ min largest_held X) where
           let k : farthest < min (x + f) largest_held = omega arith in
           lt-leb (min (x + f) largest_held) farthest k ∙ sym (lt-leb (X + f) farthest g)
 
-  -- an exponent above the fraction's length: what it has over
-  pub reach_up : f < 2 ^ 63 → f < x → leb (x - f) farthest ≡ reaches farthest f false X
+  -- an exponent of the fraction's length or more: what it has over
+  pub reach_up : f < 2 ^ 63 → f ≤ x → leb (x - f) farthest ≡ reaches farthest f false X
   reach_up w g = go (dec_le (x - f) farthest)
     where
       go : Dec (x - f ≤ farthest) → leb (x - f) farthest ≡ leb X (f + farthest) && leb f (X + farthest)
