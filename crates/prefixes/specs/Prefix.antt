@@ -1,7 +1,8 @@
 -- Document 01, 'Units': the factor of a prefix by its name, computed; Rules.antt has the table. Assumes nothing.
-use Rattle.std.specs.Prelude.{ℕ, zero, suc, ◌+◌, ◌≤◌, ◌<◌, ◌≡◌, refl, Bool, true, false, ◌&&◌, List, [], ◌∷◌, eqb, length, map, drop, get_or, Float}
+use Rattle.std.specs.Prelude.{ℕ, zero, suc, ◌+◌, ◌≤◌, ◌<◌, ◌≡◌, refl, Bool, true, false, ◌&&◌, List, [], ◌∷◌, ◌++◌, eqb, length, map, drop, get_or, Float}
 use Rattle.std.proofs.Common.{Bor, sym, ◌∙◌, ap, subst, arith, le_of_suc-le-suc, add-one, eqb-true, drop-cons}
-use Rattle.std.specs.Float.{binary64}
+use Rattle.std.proofs.Math.Decide.{dec_lt}
+use Rattle.std.specs.Float.{nan, binary64}
 use Rattle.std.specs.Float.Ieee.{of_bits, to_bits, size}
 use Rattle.common.specs.Pick.{pick}
 use Rattle.common.specs.Tests.{both}
@@ -49,6 +50,10 @@ table =
     ∷ (bytes "FEMTO", of_bits binary64 4382569440205035030)
     ∷ (bytes "ATTO", of_bits binary64 4337655138388951980)
     ∷ []
+
+-- the factors that the code gives: one of each row, and behind them that of any other name, 1.0
+abbrev pub factors : List Float
+factors = map (λ (r : Row). r.1) table ++ (of_bits binary64 4607182418800017408 ∷ [])
 
 -- what the code's rows hold: the text that each points to, and its factor
 abbrev pub rows_of : List (Bor (List ℕ) × Float) → List Row
@@ -170,9 +175,26 @@ prefix_place_within t (p ∷ ps) = go (is_word t (bytes p.name)) (prefix_place_w
 pub place_most : (t : List ℕ) → place_in prefixes t ≤ 16
 place_most t = prefix_place_within t prefixes
 
--- the factor at row k is the f64 nearest to the power of ten of the prefix there
-pub factor_at : (k : ℕ) (d : Row) → k < 16 → to_bits binary64 (get_or table k d).1 ≡ near (ten_up (get_or prefixes k unity)) (ten_down (get_or prefixes k unity))
-factor_at k d h = (rule_at k d h).factor
+-- the factor of row k is the f64 nearest to the power of ten of the prefix there
+pub row_factor_at : (k : ℕ) (d : Row) → k < 16 → to_bits binary64 (get_or table k d).1 ≡ near (ten_up (get_or prefixes k unity)) (ten_down (get_or prefixes k unity))
+row_factor_at k d h = (rule_at k d h).factor
+
+-- the factor at row k is the f64 nearest to the power of ten of the prefix there; at row 16 it is 1.0
+pub factor_at : (k : ℕ) → k ≤ 16 → to_bits binary64 (get_or factors k nan) ≡ near (ten_up (get_or prefixes k unity)) (ten_down (get_or prefixes k unity))
+factor_at k h = go (dec_lt k 16)
+  where
+    held : (rs : List Row) (fs : List Float) (i : ℕ) (d : Row) (x : Float) → i < length rs → get_or (map (λ (r : Row). r.1) rs ++ fs) i x ≡ (get_or rs i d).1
+    held [] fs i d x l = absurd (omega arith)
+    held (r ∷ rs) fs zero d x l = refl
+    held (r ∷ rs) fs (suc i) d x l = held rs fs i d x (le_of_suc-le-suc l)
+
+    go : Dec (k < 16) → to_bits binary64 (get_or factors k nan) ≡ near (ten_up (get_or prefixes k unity)) (ten_down (get_or prefixes k unity))
+    go (yes l) =
+        let d : Row = ([], nan) in
+        ap (to_bits binary64) (held table (of_bits binary64 4607182418800017408 ∷ []) k d nan l) ∙ row_factor_at k d l
+    go (no n) =
+        let e : k ≡ 16 = omega arith in
+        subst (λ (m : ℕ). to_bits binary64 (get_or factors m nan) ≡ near (ten_up (get_or prefixes m unity)) (ten_down (get_or prefixes m unity))) (sym e) last_factor
 
 -- the factor of the prefix at the place that is sought
 factor_found : (t : List ℕ) (k : ℕ) → k ≡ place_in prefixes t → near (ten_up (get_or prefixes k unity)) (ten_down (get_or prefixes k unity)) ≡ factor_of t

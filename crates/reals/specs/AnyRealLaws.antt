@@ -1,4 +1,4 @@
--- Any real: the laws by which `scale_of`, `any_real` and `read_real` are proved. An exponent that is held up to the largest number decides as the true one does,
+-- Any real: the laws by which `less_places` and `read_real` are proved. An exponent that is held up to the largest number decides as the true one does,
 -- since that far all answers are zeros and infinities; and the digits that the long path reads are those of the mantissa. Assumes nothing.
 use Rattle.std.specs.Prelude.{ℕ, ◌+◌, ◌*◌, ◌-◌, ◌^◌, ◌≤◌, ◌<◌, min, ◌≡◌, refl, ◌⊎◌, Bool, true, false, List, [], ◌∷◌, eqb}
 use Rattle.std.proofs.Common.{sym, ◌∙◌, ap, inl, inr, zero-mul, eq-zero-or-pos, arith, eqb-true}
@@ -8,6 +8,7 @@ use Rattle.common.specs.Walk.{walk, turned, on, stop}
 use Rattle.record.specs.Text.{number_and_rest, digit_turn, number_from}
 use Rattle.record.specs.Byte.{digit}
 use Rattle.nearest.specs.Near.{near}
+use Rattle.nearest.specs.Nearest.{signed}
 use Rattle.nearest.proofs.Borders.{near_nothing}
 use Rattle.nearest.specs.Power.{near_by}
 use Rattle.long_reals.specs.Number.{number_in}
@@ -67,6 +68,10 @@ module _ (M X n f x : ℕ) (h : M < 10 ^ n) (l : n < 2 ^ 63) (g : f < 2 ^ 63) (e
   -- a fraction as long as the exponent says, or longer: the power of ten is negative, what the fraction has over
   pub mid_held : x ≤ f → near_by true M (f - x) ≡ near_ten M f false X
   mid_held w = let y : x ≡ X = omega arith in lowered_same M f x w ∙ ap (λ (i : ℕ). near (M * 10 ^ i) (10 ^ f)) y
+
+-- b is the answer for any real whose digits make M, where the exponent is held up to the largest number
+abbrev pub AnyAt : Bool → ℕ → ℕ → Bool → ℕ → ℕ → Type 0
+AnyAt s M f d x b = (X : ℕ) → x ≡ min largest_held X → b ≡ signed s (near_ten M f d X)
 
 -- ---- the digits of the mantissa
 -- the number of a text's digits goes on, after those at its start, with those of the rest

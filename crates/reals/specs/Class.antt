@@ -12,7 +12,7 @@ use Rattle.common.specs.Pick.{pick}
 use Rattle.reals.specs.Scalar.{parsed, class_of, reaches, mantissa_bound, largest_held, InClass, ScaleAt, ReachOf}
 use Rattle.reals.specs.declared.Power.{Power}
 use Rattle.reals.specs.declared.NotRead.{NotRead}
-use Rattle.reals.specs.Answer.{read, refused, told_real, farthest}
+use Rattle.reals.specs.Answer.{read, refused, told_real, longest, farthest}
 
 -- an exponent that is the fraction's length or more: m times 10 ^ (x - f) has the nearest f64 of m·10^x / 10^f
 pub raised_same : (m f x : ℕ) → f ≤ x → near (m * 10 ^ (x - f)) 1 ≡ near (m * 10 ^ x) (10 ^ f)
@@ -33,18 +33,23 @@ pub no_and : (a : Bool) → a && false ≡ false
 no_and true = refl
 no_and false = refl
 
--- m held up to its cap, and the power of ten that the exponent and the fraction make: the answer of the class
-pub class_told : (s d : Bool) (m f x M X n : ℕ) (p : Power) (r : Result Float NotRead) → m ≡ min mantissa_bound M → x ≡ min largest_held X → M < 10 ^ n → n < 2 ^ 63
-    → ScaleAt f d x p → ReachOf f d x p → InClass s m p r → told_real r ≡ class_of (parsed s M f d X)
-class_told s d m f x M X n p r a b h l scale reach told = told ∙ go (dec_lt M mantissa_bound)
+-- r is the answer of the class, where m is held up to its cap and the exponent up to the largest number
+abbrev pub ClassOf : Bool → ℕ → ℕ → Bool → ℕ → Result Float NotRead → Type 0
+ClassOf s m f d x r = (M X : ℕ) → m ≡ min mantissa_bound M → x ≡ min largest_held X → told_real r ≡ class_of (parsed s M f d X)
+
+-- m held up to its cap, and the power of ten that the exponent and the fraction make: the answer of the class. A number of the class has few digits, so
+-- that the power is the right one however long the text is
+pub class_told : (s d : Bool) (m f x : ℕ) (p : Power) (r : Result Float NotRead) → ScaleAt f d x p → ReachOf f d x p → InClass s m p r → ClassOf s m f d x r
+class_told s d m f x p r scale reach told = λ M X a b. told ∙ go M X a b (dec_lt M mantissa_bound)
   where
-    go : Dec (M < mantissa_bound) → pick (ltb m mantissa_bound && leb p.size farthest) (read (signed s (near_by p.down m p.size))) (refused 13) ≡ class_of (parsed s M f d X)
-    go (yes k) =
+    go : (M X : ℕ) → m ≡ min mantissa_bound M → x ≡ min largest_held X → Dec (M < mantissa_bound) → pick (ltb m mantissa_bound && leb p.size farthest) (read (signed s (near_by p.down m p.size))) (refused 13) ≡ class_of (parsed s M f d X)
+    go M X a b (yes k) =
         let e : m ≡ M = omega arith in
+        let n : longest < 2 ^ 63 = omega arith in
         ap (λ (v : ℕ). pick (ltb v mantissa_bound && leb p.size farthest) (read (signed s (near_by p.down v p.size))) (refused 13)) e
         ∙ ap (λ (v : Bool). pick (ltb M mantissa_bound && v) (read (signed s (near_by p.down M p.size))) (refused 13)) (reach X b)
-        ∙ ap (λ (v : ℕ). pick (ltb M mantissa_bound && reaches farthest f d X) (read (signed s v)) (refused 13)) (scale M X n h l b)
-    go (no k) =
+        ∙ ap (λ (v : ℕ). pick (ltb M mantissa_bound && reaches farthest f d X) (read (signed s v)) (refused 13)) (scale M X longest k n b)
+    go M X a b (no k) =
         let u : mantissa_bound ≤ m = omega arith in
         let v : mantissa_bound ≤ M = omega arith in
         rw (le-ltb m mantissa_bound u, le-ltb M mantissa_bound v) refl
@@ -64,8 +69,8 @@ module _ (f x X : ℕ) (b : x ≡ min largest_held X) where
           let k : farthest < min (x + f) largest_held = omega arith in
           lt-leb (min (x + f) largest_held) farthest k ∙ sym (lt-leb (X + f) farthest g)
 
-  -- an exponent above the fraction's length: what it has over
-  pub reach_up : f < 2 ^ 63 → f < x → leb (x - f) farthest ≡ reaches farthest f false X
+  -- an exponent of the fraction's length or more: what it has over
+  pub reach_up : f < 2 ^ 63 → f ≤ x → leb (x - f) farthest ≡ reaches farthest f false X
   reach_up w g = go (dec_le (x - f) farthest)
     where
       go : Dec (x - f ≤ farthest) → leb (x - f) farthest ≡ leb X (f + farthest) && leb f (X + farthest)

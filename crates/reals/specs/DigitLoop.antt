@@ -8,6 +8,7 @@ use mathlib.Core.List.{List, [], ◌∷◌}
 use Rattle.std.proofs.Math.Nat.{one-le-pow}
 use Rattle.std.proofs.Math.Decide.{dec_le}
 use Rattle.std.proofs.lemmas.Bool.{eqb-false}
+use Rattle.std.proofs.lemmas.List.{get_or_past}
 use Rattle.std.proofs.Math.ListN.{length}
 use Rattle.common.specs.Lists.{drop_end, split}
 use Rattle.common.specs.Walk.{walk_ends}
@@ -119,10 +120,18 @@ abbrev pub RunAt : List ℕ → ℕ → ℕ → Option ℕ → Type 0
 RunAt t at n (Some v) = (at + n ≤ length t) × DigitsAt t at n v
 RunAt t at n None = Unit {0}
 
+-- a digit stands inside the text: past the end 0 is read, which is none
+digit_inside : (t : List ℕ) (i : ℕ) → digit (get_or t i 0) ≡ true → i < length t
+digit_inside t i h = go (dec_le (length t) i)
+  where
+    go : Dec (length t ≤ i) → i < length t
+    go (yes l) = let e : get_or t i 0 ≡ 0 = get_or_past t i 0 l in let k : 48 ≤ get_or t i 0 = (bounds 48 (get_or t i 0) 57 h).0 in absurd (omega arith)
+    go (no n) = omega arith
+
 -- what is told of the eight bytes at the place says whether eight digits stand there
-pub eight_at : (t : List ℕ) (i : ℕ) (x : Option ℕ) → i + 8 ≤ length t → EightTold (eight_from t i) x → RunAt t i 8 x
-eight_at t i (Some v) l h = (
-  l,
+pub eight_at : (t : List ℕ) (i : ℕ) (x : Option ℕ) → EightTold (eight_from t i) x → RunAt t i 8 x
+eight_at t i (Some v) h = (
+  let l : i + 7 < length t = digit_inside t (i + 7) h.0.1.1.1.1.1.1.1.0 in omega arith,
   record {
     bytes = eight_from t i;
     many = refl;
@@ -131,7 +140,7 @@ eight_at t i (Some v) l h = (
     makes = h.1;
   },
 )
-eight_at t i None l h = tt
+eight_at t i None h = tt
 
 -- digits that may be put to a number: they are below the scale, and the place after them is a number
 abbrev pub RunFits : ℕ → ℕ → ℕ → Option ℕ → Type 0

@@ -1,6 +1,6 @@
 -- A real, read at places of the text: what the code's parts promise put together. Assumes nothing.
 use Rattle.std.specs.Prelude.{ℕ, ◌+◌, ◌-◌, ◌^◌, ◌≤◌, ◌<◌, min, ◌≡◌, refl, Bool, true, false, ◌&&◌, length, take, drop, Float, Some, None, Result}
-use Rattle.std.proofs.Common.{sym, ◌∙◌, subst, arith, eq-eqb, ne_eqb, length-take, length-drop, take-append-drop, drop-drop}
+use Rattle.std.proofs.Common.{sym, ◌∙◌, arith, eq-eqb, ne_eqb, length-take, length-drop, take-append-drop, drop-drop}
 use Rattle.std.proofs.Math.Path.{ap}
 use mathlib.Core.List.{List, ◌++◌}
 use Rattle.std.proofs.Math.Decide.{ℕ_discrete}
@@ -15,8 +15,8 @@ use Rattle.long_reals.specs.Digits.{digits_in}
 use Rattle.long_reals.specs.DigitsRight.{number_append, number_in_only, number_lt, digits_le}
 use Rattle.nearest.specs.Nearest.{signed}
 use Rattle.nearest.specs.Power.{near_by}
-use Rattle.reals.specs.Class.{class_told}
-use Rattle.reals.specs.AnyRealLaws.{number_rest, fraction_rest}
+use Rattle.reals.specs.Class.{ClassOf, class_told}
+use Rattle.reals.specs.AnyRealLaws.{AnyAt, number_rest, fraction_rest}
 use Rattle.reals.specs.FormRight.{unparsed_by}
 use Rattle.reals.specs.declared.Reals.{Reals}
 use Rattle.reals.specs.declared.NotRead.{NotRead}
@@ -112,22 +112,29 @@ module _ (t : List ℕ) (a : ℕ) (here : drop a t ≡ unsigned t) (within : a �
   few l = let n = digits_le (take (d.next - a) (drop a t)) in let x = length-take (d.next - a) (drop a t) in let y = length-drop a t in omega arith
 
   -- a text whose parts are well formed answers as the class does of what the code holds
-  pub good_class : (s : Bool) (g p : Power) (r : Result Float NotRead) → length t < 2 ^ 63 → eqb w.next a && eqb d.places 0 ≡ false → s ≡ is_minus t → TensAt (drop d.next t) (Some g)
-      → ScaleAt d.places g.down g.size p → ReachOf d.places g.down g.size p → InClass s d.value p r → told_real r ≡ real_of t
+  pub good_class : (s : Bool) (g : Power) (r : Result Float NotRead) → eqb w.next a && eqb d.places 0 ≡ false → s ≡ is_minus t → TensAt (drop d.next t) (Some g) → ClassOf s d.value d.places g.down g.size r → told_real r ≡ real_of t
   unfolding real_of
-  good_class s g p r l e m f scale reach q =
+  good_class s g r e m f c =
       let M = fraction_of (number_from 0 (unsigned t)).value (number_from 0 (unsigned t)).rest in
-      let xs = take (d.next - a) (drop a t) in
-      class_told s g.down d.value d.places g.size M.value f.0 (digits_in xs) p r held f.2 (subst (λ (n : ℕ). n < 10 ^ digits_in xs) digits_held (number_lt xs)) (few l) scale reach q
-      ∙ ap class_of (good_tens s g e m f)
+      c M.value f.0 held f.2 ∙ ap class_of (good_tens s g e m f)
+
+  -- the same, by the power of ten that the code holds
+  pub good_class_by : (s : Bool) (g p : Power) (r : Result Float NotRead) → eqb w.next a && eqb d.places 0 ≡ false → s ≡ is_minus t → TensAt (drop d.next t) (Some g)
+      → ScaleAt d.places g.down g.size p → ReachOf d.places g.down g.size p → InClass s d.value p r → told_real r ≡ real_of t
+  good_class_by s g p r e m f scale reach q = good_class s g r e m f (class_told s g.down d.value d.places g.size p r scale reach q)
 
   -- a text whose parts are well formed answers as any real does of what the code holds
-  pub good_any : (s : Bool) (g p : Power) (b : ℕ) → length t < 2 ^ 63 → eqb w.next a && eqb d.places 0 ≡ false → s ≡ is_minus t → TensAt (drop d.next t) (Some g)
-      → ScaleAt d.places g.down g.size p → b ≡ signed s (near_by p.down (number_in 0 (take (d.next - a) (drop a t))) p.size) → read b ≡ any_real_of t
+  pub good_any : (s : Bool) (g : Power) (b : ℕ) → eqb w.next a && eqb d.places 0 ≡ false → s ≡ is_minus t → TensAt (drop d.next t) (Some g)
+      → AnyAt s (number_in 0 (take (d.next - a) (drop a t))) d.places g.down g.size b → read b ≡ any_real_of t
   unfolding any_real_of
-  good_any s g p b l e m f scale q =
-      let M = fraction_of (number_from 0 (unsigned t)).value (number_from 0 (unsigned t)).rest in
-      let xs = take (d.next - a) (drop a t) in
-      ap read (q ∙ ap (signed s) (scale (number_in 0 xs) f.0 (digits_in xs) (number_lt xs) (few l) f.2))
+  good_any s g b e m f c =
+      ap read (c f.0 f.2)
       ∙ ap (λ (n : ℕ). any_of (parsed s n d.places g.down f.0)) digits_held
       ∙ ap any_of (good_tens s g e m f)
+
+  -- the same, by the power of ten that the code holds, which is the right one for fewer than 2 ^ 63 digits
+  pub good_any_by : (s : Bool) (g p : Power) (b : ℕ) → length t < 2 ^ 63 → eqb w.next a && eqb d.places 0 ≡ false → s ≡ is_minus t → TensAt (drop d.next t) (Some g)
+      → ScaleAt d.places g.down g.size p → b ≡ signed s (near_by p.down (number_in 0 (take (d.next - a) (drop a t))) p.size) → read b ≡ any_real_of t
+  good_any_by s g p b l e m f scale q =
+      let xs = take (d.next - a) (drop a t) in
+      good_any s g b e m f (λ X h. q ∙ ap (signed s) (scale (number_in 0 xs) X (digits_in xs) (number_lt xs) (few l) h))

@@ -327,7 +327,8 @@ fn scaled(neg: bool, m: u64, p: Power) -> f64
 }
 
 // The power of ten that a real's digits are multiplied by, of an exponent e and f fraction digits. Where it would be larger than a number is here, the
-// largest stands for it: that far, all answers are zeros and infinities.
+// largest stands for it: that far, all answers are zeros and infinities. Where nothing is left over they are multiplied, by 1: where that needs the wide
+// path, a division takes longer.
 fn less_places(e: Power, f: usize) -> Power
     requires { f < 2 ^ 63 }
     ensures near { ScaleAt f e.down e.size result }
@@ -339,7 +340,7 @@ fn less_places(e: Power, f: usize) -> Power
             size: e.size.saturating_add(f),
         };
     }
-    if f < e.size {
+    if f <= e.size {
         return Power {
             down: false,
             size: e.size - f,

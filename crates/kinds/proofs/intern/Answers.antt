@@ -2,6 +2,9 @@ use Rattle.std.proofs.Common.{refl, ◌∙◌, arith}
 use Rattle.kinds.specs.Kind.{kind_of_keyword, named_kinds, kind_here, kind_next}
 use Rattle.kinds.proofs.intern.Goals as goal
 
+-- `kinds::intern` meets its contract: the kinds that have a keyword are tried in their order, by the laws of Kind.antt.
+-- Assumes nothing.
+
 pub loop-kind-init : goal.loop-kind-init
 unfolding kind_of_keyword
 loop-kind-init c = refl

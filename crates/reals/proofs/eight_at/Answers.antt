@@ -30,4 +30,4 @@ sliced t i j e h = let l : j - i ≡ 8 = omega arith in ap (λ (n : ℕ). take n
 pub returns : goal.returns
 returns c =
     let a = c.args in
-    eight_at a.t.now a.at c.number.result (omega arith) (subst (λ (bs : List ℕ). EightTold bs c.number.result) (c.in-Ok.ensures.1.same ∙ sliced a.t.now a.at (a.at + 8) refl (omega arith)) c.number.ensures)
+    eight_at a.t.now a.at c.number.result (subst (λ (bs : List ℕ). EightTold bs c.number.result) (c.in-Ok.ensures.1.same ∙ sliced a.t.now a.at (a.at + 8) refl (omega arith)) c.number.ensures)

@@ -24,15 +24,17 @@ down_saturated M X n f x h l g e r q = go (dec_le (x + f) largest_held)
 pub returns-then-e-clause-near : goal.returns-then-e-clause-near
 returns-then-e-clause-near c =
     let a = c.args in
+    let q : c.saturating_add.result ≡ min (a.e.size + a.f) largest_held = omega (arith, c.saturating_add.ensures) in
     λ M X n h l e.
-    down_saturated M X n a.f a.e.size h l c.requires e _ c.saturating_add.ensures
+    down_saturated M X n a.f a.e.size h l c.requires e _ q
     ∙ ap (λ (d : Bool). near_ten M a.f d X) (sym c.if-e.true)
 
 pub returns-then-e-clause-reach : goal.returns-then-e-clause-reach
 returns-then-e-clause-reach c =
     let a = c.args in
+    let q : c.saturating_add.result ≡ min (a.e.size + a.f) largest_held = omega (arith, c.saturating_add.ensures) in
     λ X e.
-    ap (λ (n : ℕ). leb n farthest) c.saturating_add.ensures
+    ap (λ (n : ℕ). leb n farthest) q
     ∙ reach_down a.f a.e.size X e
     ∙ ap (λ (d : Bool). reaches farthest a.f d X) (sym c.if-e.true)
 
