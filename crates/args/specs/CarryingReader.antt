@@ -1,13 +1,13 @@
 -- Document 01: "The argument reader is one thing that carries the file, its place and its end."
 -- Assumes nothing.
 -- Definitions to be believed: no law, and nothing computed that no theorem ties (docs/BELIEVE.md).
-use Rattle.std.specs.Prelude.{ℕ, ◌≡◌, List, Result, length}
+use Rattle.std.specs.Prelude.{ℕ, ◌≡◌, List, length}
 use Rattle.std.specs.Borrow.{Bor}
 use Rattle.error.specs.Refusal.{Told, good, bad, told_result}
-use Rattle.error.specs.declared.Fault.{Fault}
 use Rattle.params.specs.Answer.{Read, opened_of}
 use Rattle.params.specs.declared.State.{State}
 use Rattle.args.specs.declared.Args.{Args}
+use Rattle.args.specs.declared.Opening.{Opening}
 
 -- what a definition of the core says of the file, the place and the end that the reader carries
 abbrev pub over_reader : {A : Type 0} → (List ℕ → ℕ → ℕ → A) → Args → A
@@ -21,14 +21,14 @@ SaysOfReader P w = P w.file.now w.at.place w.at.end
 abbrev pub standing : {A : Type 0} → Args → Read A → Args
 standing w a = record { file = w.file; at = record { place = a.place; end = a.end } }
 
--- a reader of the slice that was passed, where the core opens one; its refusal where it refuses
-abbrev pub opened_over : Bor (List ℕ) → Told State → Told Args
-opened_over file (good t) = good (record { file = file; at = t })
-opened_over file (bad q) = bad q
+-- the state of a reader that was opened; where 9 refuses it, one that has nothing to read
+abbrev pub opened_at : Told State → State
+opened_at (good s) = s
+opened_at (bad q) = record { place = 0; end = 0 }
 
 -- a reader is opened as the core opens one, over the slice that was passed
-abbrev pub OpensReader : Bor (List ℕ) → ℕ → ℕ → Result Args Fault → Type 0
-OpensReader file p e r = told_result r ≡ opened_over file (opened_of file.now p e)
+abbrev pub OpensReader : Bor (List ℕ) → ℕ → ℕ → Opening → Type 0
+OpensReader file p e r = (told_result r.opened ≡ opened_of file.now p e) × (r.args ≡ record { file = file; at = opened_at (told_result r.opened) })
 
 -- "forwarding to covered functions": the answer is the core's, and the reader then stands where that answer leaves it
 abbrev pub Forwards : {A : Type 0} → (List ℕ → ℕ → ℕ → Read A) → Args → Args → Read A → Type 0

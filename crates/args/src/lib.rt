@@ -25,13 +25,24 @@ pub struct Args<'a> {
     pub at: State,
 }
 
+// What opening a reader answers, and the reader: after 9 one that has nothing to read.
+#[derive(Clone, Copy)]
+pub struct Opening<'a> {
+    pub opened: Result<State, Fault>,
+    pub args: Args<'a>,
+}
+
 impl<'a> Args<'a> {
     // A reader of the file from a place up to an end.
-    pub fn new(file: &'a [u8], place: usize, end: usize) -> Result<Args<'a>, Fault>
+    pub fn new(file: &'a [u8], place: usize, end: usize) -> Opening<'a>
         ensures { OpensReader file.entry place end result }
     {
-        let at = params::new(file, place, end)?;
-        Ok(Args { file, at })
+        let opened = params::new(file, place, end);
+        let at = opened.unwrap_or(State { place: 0, end: 0 });
+        Opening {
+            opened,
+            args: Args { file, at },
+        }
     }
 
     // The reader's place.

@@ -1,15 +1,16 @@
 -- The answers of the readers of grids, put together from what the code's parts promise. Assumes nothing.
-use Rattle.std.specs.Prelude.{ℕ, suc, ◌+◌, ◌-◌, ◌≤◌, ◌≡◌, Bool, true, false, ◌&&◌, List, [], ◌∷◌, ◌++◌, map, leb, length, take, drop}
+use Rattle.std.specs.Prelude.{ℕ, suc, ◌+◌, ◌-◌, ◌≤◌, ◌≡◌, Bool, true, false, ◌&&◌, List, [], ◌∷◌, ◌++◌, Result, map, leb, length, take, drop}
 use Rattle.std.proofs.Math.Path.{refl}
 use Rattle.std.proofs.Common.{sym, ◌∙◌, ap, arith, length-append, leb-true}
-use Rattle.error.specs.Refusal.{Refusal, Told, good, bad}
+use Rattle.error.specs.Refusal.{Refusal, Told, good, bad, told_result}
+use Rattle.error.specs.declared.Fault.{Fault}
 use Rattle.params.specs.Reader.{param_of}
 use Rattle.params.specs.Answer.{reading, Span}
 use Rattle.lists.specs.Items.{items_in, list_by, filled, ShapeAt}
 use Rattle.lists.specs.Answer.{Fate, fine, faulty, fated, mute, kind_of, roomed, next_by, written, values_of}
 use Rattle.lists.specs.Laws.{tally, list_blank, shape_blank}
 use Rattle.lists.specs.ReadLaws.{fills_none, fills_full, list_map, count_mute, roomed_told, roomed_good, onward_bad, next_uncut, next_cut}
-use Rattle.lists.specs.Places.{Inward, list_inward, told_inward, told_place, kind_inward, items_inward}
+use Rattle.lists.specs.Places.{Inward, place_of, list_inward, roomed_inward, told_inward, told_place, kind_inward, items_inward}
 use Rattle.lists.specs.Lent.{item_value}
 use Rattle.lists.specs.declared.Kind.{Kind}
 use Rattle.lists.specs.declared.Kind.TheVariants.{References, Integers, Floats, Any}
@@ -122,6 +123,14 @@ tally_inward kind b n o e =
     told_place (tally add_row (size 0 0)) (items_in (row_of kind) b) n o (length b) e
     (omega (arith, items_inward (row_of kind) (row_inward kind) (suc (length b)) 0 b))
 
--- the place of what is wrong with a grid lies in its text
-pub grid_inward : (kind : Kind) (t : List ℕ) (n o : ℕ) → faulty n o ≡ fated (tally add_row (size 0 0)) (list_by (row_of kind) t) → o ≤ length t
-grid_inward kind t n o e = told_place (tally add_row (size 0 0)) (list_by (row_of kind) t) n o (length t) e (list_inward (row_of kind) (row_inward kind) t)
+-- so has a grid, while it is counted
+pub counted_inward : (kind : Kind) (t : List ℕ) (n o : ℕ) → faulty n o ≡ fated (tally add_row (size 0 0)) (list_by (row_of kind) t) → o ≤ length t
+counted_inward kind t n o e = told_place (tally add_row (size 0 0)) (list_by (row_of kind) t) n o (length t) e (list_inward (row_of kind) (row_inward kind) t)
+
+-- the place that the code tells of a grid's text, which stands at o, lies in that text
+pub grid_inward : {A : Type 0} (g : List ℕ → Fate (List (List A))) → Inward g → (fits : List (List A) → Bool) (o : ℕ) (t : List ℕ) (r : Result Size Fault) → told_result r ≡ size_told (roomed fits o (g t)) → place_of (told_result r) ≤ o + length t
+grid_inward {A} g inward fits o t r e = omega (arith, ap place_of e, size_place (roomed fits o (g t)), roomed_inward g inward fits o t)
+  where
+    size_place : (x : Told (List (List A))) → place_of (size_told x) ≡ place_of x
+    size_place (good rs) = refl
+    size_place (bad q) = refl

@@ -1,7 +1,7 @@
 -- Demand 1: "one numbered refusal with a place from 0 to the input's length". The place of whatever is wrong with a list lies in its
 -- text, and so that of every refusal in the file. Assumes nothing.
 use Prim.Native.Nat.{ℕ, zero, suc, ◌+◌, ◌-◌, ◌≤◌, ◌<◌}
-use Rattle.std.specs.Prelude.{◌≡◌, refl, Bool, ◌&&◌, take, drop, get_or}
+use Rattle.std.specs.Prelude.{◌≡◌, refl, Bool, ◌&&◌, Result, take, drop, get_or}
 use Rattle.std.proofs.Common.{ap, length-drop}
 use Rattle.std.proofs.Math.Bool.{true, false}
 use mathlib.Core.List.{List, [], ◌∷◌}
@@ -10,7 +10,8 @@ use Rattle.std.proofs.Math.Dec.{eqb}
 use Rattle.std.proofs.Math.ListN.{length, length-take}
 use Rattle.common.specs.Pick.{pick}
 use Rattle.common.specs.Compare.{clash}
-use Rattle.error.specs.Refusal.{Refusal, refusal, Told, good, bad}
+use Rattle.error.specs.Refusal.{Refusal, refusal, Told, good, bad, told_result}
+use Rattle.error.specs.declared.Fault.{Fault}
 use Rattle.lex.specs.Byte.{white, place}
 use Rattle.lex.specs.Place.{place_within}
 use Rattle.common.specs.Walk.{stop, on, turned, walk}
@@ -25,7 +26,7 @@ use Rattle.params.specs.ParameterEnd.{Stand, outside_literals, settled, passed, 
 use Rattle.params.specs.Reader.{bounded, param_begun, param_of}
 use Rattle.lists.specs.declared.Kind.{Kind}
 use Rattle.lists.specs.declared.Kind.TheVariants.{References, Integers, Floats, Any}
-use Rattle.lists.specs.Answer.{Fate, fine, faulty, shifted, fated, as_fate, kind_of, consed, roomed, next_by, fits_in}
+use Rattle.lists.specs.Answer.{Fate, fine, faulty, shifted, fated, as_fate, kind_of, consed, roomed, next_by, fits_in, count_of}
 use Rattle.lists.specs.Items.{bound_of, item_end, item_text, indent, item_by, headed, past_comma, items_from, is_blank, items_by, inside, bare, body_of, listed, list_by, list_of}
 
 -- how far into a text its fault is; 0 where it has none
@@ -219,3 +220,11 @@ next_placed g inward fits s p e q h = omega (arith, ap place_of h, next_inward g
 -- "a place from 0 to the input's length": every refusal of a reader of lists
 pub list_placed : {A : Type 0} (f : List ℕ → Answer A) (room : ℕ) (s : List ℕ) (p e : ℕ) (q : Refusal) → (next_by (list_of f) (fits_in room) s p e).answer ≡ bad q → q.place ≤ length s
 list_placed f room s p e q h = next_placed (list_of f) (list_inward (λ u. as_fate (f u)) (scalar_inward f)) (fits_in room) s p e q h
+
+-- the place that the code tells of a list's text, which stands at a, lies in that text
+pub read_inward : {A : Type 0} (g : List ℕ → Fate (List A)) → Inward g → (fits : List A → Bool) (a : ℕ) (t : List ℕ) (r : Result ℕ Fault) → told_result r ≡ count_of (roomed fits a (g t)) → place_of (told_result r) ≤ a + length t
+read_inward {A} g inward fits a t r e = omega (arith, ap place_of e, count_place (roomed fits a (g t)), roomed_inward g inward fits a t)
+  where
+    count_place : (x : Told (List A)) → place_of (count_of x) ≡ place_of x
+    count_place (good vs) = refl
+    count_place (bad q) = refl

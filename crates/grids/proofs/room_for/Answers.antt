@@ -2,7 +2,7 @@ use Rattle.common.specs.Pick.{pick}
 use Rattle.lists.specs.ReadLaws.{roomed_bad}
 use Rattle.lists.specs.Answer.{roomed}
 use Rattle.grids.specs.Grid.{size_fits}
-use Rattle.grids.specs.Laws.{grid_inward}
+use Rattle.grids.specs.Laws.{counted_inward}
 use Rattle.error.specs.Refusal.{refusal, good, bad}
 use mathlib.Core.Path.{ap, sym, ◌∙◌}
 use mathlib.Core.Bool.{Bool}
@@ -13,7 +13,7 @@ use Rattle.grids.proofs.room_for.Goals as goal
 
 pub returns-in-Err : goal.returns-in-Err
 returns-in-Err c = let t = c.args in
-    let l : t.start + c.in-Err.bad.place ≤ 18446744073709551615 = omega (arith, c.requires, grid_inward t.kind t.t.now _ _ c.in-Err.ensures) in
+    let l : t.start + c.in-Err.bad.place ≤ 18446744073709551615 = omega (arith, c.requires, counted_inward t.kind t.t.now _ _ c.in-Err.ensures) in
     rw (c.fault.ensures, min-eq_left l) (roomed_bad (size_fits t.room t.ends) t.start _ _ _ c.in-Err.ensures)
 
 pub returns-then-size-room : goal.returns-then-size-room
