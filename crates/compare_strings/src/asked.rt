@@ -28,20 +28,20 @@ pub struct AskedString {
     pub lent: usize,
 }
 
-// What a line asks for. A line of n bytes is whole where the room for lines is larger.
-pub fn by(line: &[u8], n: usize, string: &mut [u8]) -> Result<AskedString, Unanswered>
-    ensures { IfOk result (λ a. a.count ≤ length string.new) }
+// What a line asks for; the string's bytes are put at its start. A line of n bytes is whole where the room for lines is larger.
+pub fn by(line: &mut [u8], n: usize) -> Result<AskedString, Unanswered>
+    ensures { IfOk result (λ a. a.count ≤ length line.new) }
 {
     if n >= line.len() {
         return Err(Unanswered::Long);
     }
-    let text = &line[..n];
+    let text = &mut line[..n];
     let Some(colon) = text.iter().position(|b| *b == b':') else {
-        let count = put_pairs(text, string)?;
+        let count = put_pairs(text, 0)?;
         return Ok(AskedString { count, lent: n });
     };
     let lent = room_length(&text[..colon])?;
-    let count = put_pairs(&text[colon + 1..], string)?;
+    let count = put_pairs(text, colon + 1)?;
     Ok(AskedString { count, lent })
 }
 
@@ -53,19 +53,19 @@ fn room_length(t: &[u8]) -> Result<usize, Unanswered> {
     }
 }
 
-// Puts the bytes of pairs of hex digits, and answers how many they are.
-fn put_pairs(digits: &[u8], bytes: &mut [u8]) -> Result<usize, Unanswered>
-    ensures { IfOk result (λ n. n ≤ length bytes.new) }
+// Puts the bytes of the pairs of hex digits from a place on at the text's start, and answers how many they are.
+fn put_pairs(text: &mut [u8], start: usize) -> Result<usize, Unanswered>
+    ensures { IfOk result (λ n. n ≤ length text.new) }
 {
-    let n = digits.len() / 2;
-    if digits.len() % 2 != 0 {
+    let digits = text.len().saturating_sub(start);
+    if digits % 2 != 0 {
         return Err(Unanswered::NotHex);
     }
-    if n > bytes.len() {
-        return Err(Unanswered::Long);
-    }
+    let n = digits / 2;
     for k in 0..n {
-        bytes[k] = digit(digits[2 * k])? * 16 + digit(digits[2 * k + 1])?;
+        // its place is never behind theirs, so that no digit is lost before it is read
+        let at = start + 2 * k;
+        text[k] = digit(text[at])? * 16 + digit(text[at + 1])?;
     }
     Ok(n)
 }

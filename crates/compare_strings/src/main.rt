@@ -30,14 +30,13 @@ fn answers<R: Eprint + Alloc, F: Read, W: Write>(
     out: &mut W,
 ) -> io::Result<()> {
     let mut line = [0u8; 65536];
-    let mut string = [0u8; 32768];
     let mut room = [0u8; 65536];
     for number in 1..u64::MAX {
         match feed.line(&mut line) {
-            Ok(Some(n)) => match asked::by(&line, n, &mut string) {
+            Ok(Some(n)) => match asked::by(&mut line, n) {
                 Ok(a) => {
                     let lent = a.lent.min(room.len());
-                    answer::put_text(&string[..a.count], &mut room[..lent], number, out)?;
+                    answer::put_text(&line[..a.count], &mut room[..lent], number, out)?;
                 }
                 Err(why) => writeln!(out, "line {number}: {why}")?,
             },
