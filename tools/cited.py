@@ -1,7 +1,8 @@
 #!/usr/bin/env python3
 """Says which names the documents cite that the code has not: cited.py [--code ROOT]
 
-Read are README.md, CONTRIBUTING.md, CHANGELOG.md, docs/*.md but BELIEVE.md, and NAMES.md, PORT.md and DESIGN-PASS.md, which have old names, differential/README.md and bench/README.md of this tree. The code is that of
+Read are README.md, CONTRIBUTING.md, CHANGELOG.md, docs/*.md but BELIEVE.md, and NAMES.md, PORT.md, DESIGN-PASS.md and LOOK-BACK.md, which have old names, differential/README.md and
+bench/README.md of this tree. The code is that of
 ROOT/crates (default: this tree). Looked at is what stands in backticks:
 
   crate/specs/Module, crate/specs/Module.name, crate/proofs/Module, crates/..: the folder, the file, and the name in it
@@ -363,7 +364,7 @@ def main():
         sys.exit('usage: cited.py [--code ROOT]')
     check = Check(code)
     docs = {'docs/' + name for name in os.listdir(os.path.join(ROOT, 'docs')) if name.endswith('.md')}
-    for path in ['README.md', 'CONTRIBUTING.md', 'CHANGELOG.md'] + sorted(docs - {'docs/BELIEVE.md', 'docs/NAMES.md', 'docs/PORT.md', 'docs/DESIGN-PASS.md'}) + ['differential/README.md', 'bench/README.md']:
+    for path in ['README.md', 'CONTRIBUTING.md', 'CHANGELOG.md'] + sorted(docs - {'docs/BELIEVE.md', 'docs/NAMES.md', 'docs/PORT.md', 'docs/DESIGN-PASS.md', 'docs/LOOK-BACK.md'}) + ['differential/README.md', 'bench/README.md']:
         listed = document(check, os.path.join(ROOT, path), path)
         if path == 'docs/DESIGN.md':
             for crate in check.crates:
