@@ -1,4 +1,6 @@
 // How parts of a file and refusals are shown.
+ghost use Rattle.io.specs.Counts.{IsPrefixLen};
+
 use error::Fault;
 use input::Refusal;
 use line_column::LineColumn;
@@ -8,18 +10,40 @@ use std::{fmt, io};
 // A part of a file on one line: a byte below a space, or 127, is put as `\x` and its two hex digits, and the others as they are. A part that is
 // not in the file is put as none.
 pub fn put_part<W: Write>(out: &mut W, file: &[u8], start: usize, end: usize) -> io::Result<()> {
-    let bytes = file.get(start..end).unwrap_or(&[]);
-    for piece in bytes.split_inclusive(|b| is_hidden(*b)) {
-        match piece.split_last() {
-            Some((b, plain)) if is_hidden(*b) => {
-                out.write_all(plain)?;
-                write!(out, "\\x{b:02x}")?;
-            }
-            _ => out.write_all(piece)?,
-        }
+    // many bytes are put at once, since a call for each takes longer than its digits
+    let mut room = [0u8; 256];
+    for bytes in file.get(start..end).unwrap_or(&[]).chunks(64) {
+        let n = put_shown(bytes, &mut room);
+        out.write_all(&room[..n])?;
     }
     Ok(())
 }
+
+// Puts bytes as they are shown, as many as there is room for, of four bytes each, and answers how much of the room they take.
+fn put_shown(bytes: &[u8], room: &mut [u8]) -> usize
+    ensures { IsPrefixLen result room.new }
+{
+    let mut n = 0;
+    for b in bytes {
+        if room.len().saturating_sub(n) < 4 {
+            break;
+        }
+        if is_hidden(*b) {
+            let code = usize::from(*b);
+            room[n] = b'\\';
+            room[n + 1] = b'x';
+            room[n + 2] = DIGITS[code / 16];
+            room[n + 3] = DIGITS[code % 16];
+            n += 4;
+        } else {
+            room[n] = *b;
+            n += 1;
+        }
+    }
+    n.min(room.len())
+}
+
+const DIGITS: &[u8; 16] = b"0123456789abcdef";
 
 // Whether a byte is below a space, or 127: a line end in a file ends no line.
 fn is_hidden(b: u8) -> bool {
