@@ -7,7 +7,7 @@ use Rattle.statement.proofs.Record.data.Goals as goal
 
 pub returns-in-Err : goal.returns-in-Err
 returns-in-Err c = let a = c.args.self in
-    record_bad a.file.now (take (a.end - a.start) (drop a.start a.file.now)) a.start _ (omega arith) (sym c.in-Err.ensures)
+    rw (← c.number.ensures) at (record_bad a.file.now (take (a.end - a.start) (drop a.start a.file.now)) a.start _ (omega arith) (sym c.in-Err.ensures))
 
 pub overflow_add-opening : goal.overflow_add-opening
 overflow_add-opening c = let a = c.args.self in

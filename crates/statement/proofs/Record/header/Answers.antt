@@ -5,7 +5,7 @@ use Rattle.statement.proofs.Record.header.Goals as goal
 
 pub returns-in-Err : goal.returns-in-Err
 returns-in-Err c = let a = c.args.self in
-    header_bad a.file.now (take (a.end - a.start) (drop a.start a.file.now)) a.start _ (omega arith) (sym c.in-Err.ensures)
+    rw (← c.number.ensures) at (header_bad a.file.now (take (a.end - a.start) (drop a.start a.file.now)) a.start _ (omega arith) (sym c.in-Err.ensures))
 
 pub returns-in-Ok : goal.returns-in-Ok
 returns-in-Ok c = let a = c.args.self in
