@@ -216,11 +216,16 @@ fn plain_len(s: &[u8]) -> usize
 // Kept: the room and the place in it go apart through the functions below. A struct of both is as fast, but what is lent it may exchange its room
 // for another, so that ten contracts and three loops would have to say too that it still lends the same one.
 // Copies the first bytes of a part of the file to a place of the room, where they fit.
+// Kept: `copy_from_slice` calls `memmove`, which an archive for C then needs from outside, and takes longer for the few bytes that most are.
 fn copy(s: &[u8], n: usize, out: &mut [u8], at: usize)
     requires { (n ≤ length s.now) × (at + n ≤ length out.old) }
     ensures { out.new ≡ paste out.old at s.now n }
 {
-    out[at..at + n].copy_from_slice(&s[..n]);
+    let mut k = 0;
+    while k < n {
+        out[at + k] = s[k];
+        k += 1;
+    }
 }
 
 // Puts the first bytes where they fit, and counts them wherever they stand.
